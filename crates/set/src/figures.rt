@@ -1,0 +1,75 @@
+ghost use mathlib.Core.Path.{_≡_};
+ghost use Prim.Native.Nat.{ℕ, _+_, _≤_};
+ghost use lib.ListN.{length};
+ghost use Rattle.refusal.specs.Refusals.{Answers};
+ghost use Rattle.set.specs.Limits.{about-figures, about-model};
+ghost use Rattle.set.specs.Models.{slots-of};
+ghost use Rattle.set.specs.Sets.{Made};
+use crate::sets::Set;
+use crate::sizes::Sizes;
+use crate::sizes::checks::outside;
+use refusal::Fault;
+use refusal::Layer;
+use refusal::Refusal;
+
+// What a planner brings, unchecked: a cost and a period for each model, and the sizes.
+#[derive(Clone, Copy)]
+pub struct Figures<'a> {
+    pub workers: u32,
+    pub group_size: u32,
+    pub grain: u32,
+    pub costs: &'a [u32],
+    pub periods: &'a [u32],
+}
+
+impl Figures<'_> {
+    // The set of these figures, or a refusal for the first fault in them.
+    pub fn check(&self) -> Result<Set, Refusal>
+        ensures { λ r. ⌜ Answers (about-figures (now (self .entry) .workers) (now (self .entry) .«group_size») (now (self .entry) .grain) (now (now (self .entry) .costs)) (now (now (self .entry) .periods))) r (λ s. Made (now (self .entry) .workers) (now (self .entry) .«group_size») (now (self .entry) .grain) (now (now (self .entry) .costs)) (now (now (self .entry) .periods)) s) ⌝ }
+    {
+        let count = self.costs.len();
+        if count != self.periods.len() {
+            return Err(outside(1));
+        }
+        let sizes = Sizes::new(count as u64, self.workers, self.group_size, self.grain)?;
+        for i in 0..count {
+            check_model(self.grain, i as u64 + 1, self.costs[i], self.periods[i])?;
+        }
+        Ok(Set {
+            sizes,
+            costs: slots(self.costs),
+            periods: slots(self.periods),
+        })
+    }
+}
+
+// Refuses a model whose period or cost is at fault.
+fn check_model(grain: u32, model: u64, cost: u32, period: u32) -> Result<(), Refusal>
+    ensures { λ r. ⌜ Answers (about-model grain model cost period) r (λ _. Unit {0}) ⌝ }
+{
+    if period == 0 || grain % period != 0 {
+        return Err(Refusal {
+            fault: Fault::Period,
+            layer: Layer::Set,
+            place: model,
+        });
+    }
+    if cost == 0 || cost > period {
+        return Err(Refusal {
+            fault: Fault::Cost,
+            layer: Layer::Set,
+            place: model,
+        });
+    }
+    Ok(())
+}
+
+// The numbers in the first slots, and 0 behind them.
+fn slots(numbers: &[u32]) -> [u32; 64]
+    requires { ⌜ length (now numbers) ≤ 64 ⌝ }
+    ensures { λ r. ⌜ r ≡ slots-of (now (numbers .entry)) ⌝ }
+{
+    let mut slots = [0; 64];
+    slots[0..numbers.len()].copy_from_slice(numbers);
+    slots
+}

@@ -1,0 +1,17 @@
+ghost use Prim.Native.Nat.{ℕ, _≤_};
+ghost use Rattle.set.specs.Models.{Timed, Costed, Clear};
+use crate::sizes::Sizes;
+
+// A set that is within all limits. Slots behind the last model are 0, so equal sets have equal models.
+#[derive(Clone, Copy)]
+pub struct Set {
+    pub sizes: Sizes,
+    pub costs: [u32; 64],
+    pub periods: [u32; 64],
+    ghost timed: { Timed (sizes .models) (sizes .grain) periods },
+    ghost costed: { Costed (sizes .models) costs periods },
+    ghost clear_costs: { Clear (sizes .models) costs },
+    ghost clear_periods: { Clear (sizes .models) periods },
+}
+
+mod weights;

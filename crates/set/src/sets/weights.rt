@@ -1,0 +1,29 @@
+ghost use mathlib.Core.Path.{_≡_};
+ghost use Prim.Native.Nat.{ℕ, _-_, _*_, _≤_, _<_};
+ghost use Rattle.std.specs.Options.{Cases};
+ghost use Rattle.set.specs.Sets.{models-of, grain-of, cost-of, period-of, weight-of, parts-of, Weighs, Model};
+use super::Set;
+
+impl Set {
+    // The parts of each tick that a model needs on the average.
+    pub fn weight(&self, model: u32) -> Option<u32>
+        ensures { λ r. ⌜ Cases r (Model (now (self .entry)) model → ⊥) (λ w. Model (now (self .entry)) model × Weighs (now (self .entry)) (model - 1) w) ⌝ }
+    {
+        if model < 1 || model > self.sizes.models {
+            return None;
+        }
+        let i = model as usize - 1;
+        Some(self.costs[i] * (self.sizes.grain / self.periods[i]))
+    }
+
+    // The parts that each run of a model needs.
+    pub fn run_parts(&self, model: u32) -> Option<u64>
+        ensures { λ r. ⌜ Cases r (Model (now (self .entry)) model → ⊥) (λ p. Model (now (self .entry)) model × (p ≡ parts-of (now (self .entry)) (model - 1))) ⌝ }
+    {
+        if model < 1 || model > self.sizes.models {
+            return None;
+        }
+        let i = model as usize - 1;
+        Some(self.costs[i] as u64 * self.sizes.grain as u64)
+    }
+}
