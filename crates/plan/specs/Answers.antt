@@ -1,0 +1,13 @@
+-- What a plan is asked about.
+use Prim.Native.Nat.{ℕ, _≤_}
+use Rattle.plan.specs.declared.plans.Plan.{Plan}
+use Rattle.plan.specs.Groups.{group-of}
+
+-- a worker of the plan has this number
+pub record Worker (plan : Plan) (worker : ℕ) : Type 0 where
+  pub first : 1 ≤ worker
+  pub last : worker ≤ plan .set .sizes .workers
+
+-- groups are numbered from 1 in the workers' order, so there are as many as the last worker's group says
+abbrev pub groups-in : Plan → ℕ
+groups-in plan = group-of (plan .alone) (plan .set .sizes .«group_size») (plan .set .sizes .workers)

@@ -1,0 +1,4 @@
+pub mod Shares
+pub mod Groups
+pub mod Facts
+pub mod Answers

@@ -1,0 +1,22 @@
+ghost use Prim.Native.Nat.{ℕ, _≤_};
+ghost use Rattle.plan.specs.Facts.{Loaded, Shared, Grouped, OneFirst, OneSecond, Lasting};
+use crate::pieces::Pieces;
+use set::sets::Set;
+
+// Which worker runs which model: the set, the pieces of each model, and the load of each worker.
+// Workers 1 to `alone` are groups of one; the others stand in groups of the set's group size.
+#[derive(Clone, Copy)]
+pub struct Plan {
+    pub set: Set,
+    pub alone: u32,
+    pub pieces: [Pieces; 64],
+    pub loads: [u32; 32],
+    ghost loaded: { Loaded set pieces loads },
+    ghost shared: { Shared set pieces },
+    ghost grouped: { Grouped set pieces alone },
+    ghost one_first: { OneFirst set pieces },
+    ghost one_second: { OneSecond set pieces },
+    ghost lasting: { Lasting set pieces },
+}
+
+mod answers;

@@ -1,0 +1,84 @@
+ghost use mathlib.Core.Path.{_≡_};
+ghost use Prim.Native.Nat.{ℕ, _-_, _≤_};
+ghost use lib.ListN.{getD};
+ghost use Rattle.std.specs.Options.{Cases};
+ghost use Rattle.set.specs.Sets.{Model};
+ghost use Rattle.plan.specs.Shares.{pieces-at, worker-of};
+ghost use Rattle.plan.specs.Groups.{group-of, Group, NoGroup};
+ghost use Rattle.plan.specs.Answers.{Worker, groups-in};
+use super::Plan;
+use crate::groups::Workers;
+use crate::groups::group_of;
+use crate::groups::workers_of;
+use crate::pieces::Pieces;
+use set::sizes::Sizes;
+
+impl Plan {
+    // How many models, workers, workers to a group and parts to a tick there are.
+    pub fn sizes(&self) -> Sizes
+        ensures { λ r. ⌜ r ≡ now (self .entry) .set .sizes ⌝ }
+    {
+        self.set.sizes
+    }
+
+    // Where a model runs.
+    pub fn pieces_of(&self, model: u32) -> Option<Pieces>
+        ensures { λ r. ⌜ Cases r (Model (now (self .entry) .set) model → ⊥) (λ x. Model (now (self .entry) .set) model × (x ≡ pieces-at (now (self .entry) .pieces) (model - 1))) ⌝ }
+    {
+        if model < 1 || model > self.set.sizes.models {
+            return None;
+        }
+        Some(self.pieces[model as usize - 1])
+    }
+
+    // The parts of each tick that a worker's pieces take.
+    pub fn load_of(&self, worker: u32) -> Option<u32>
+        ensures { λ r. ⌜ Cases r (Worker (now (self .entry)) worker → ⊥) (λ x. Worker (now (self .entry)) worker × (x ≡ getD (now (self .entry) .loads) (worker - 1) 0)) ⌝ }
+    {
+        if worker < 1 || worker > self.set.sizes.workers {
+            return None;
+        }
+        Some(self.loads[worker as usize - 1])
+    }
+
+    // The loads of all workers together; those behind the last worker are 0.
+    pub fn all_loads(&self) -> [u32; 32]
+        ensures { λ r. ⌜ r ≡ now (self .entry) .loads ⌝ }
+    {
+        self.loads
+    }
+
+    // How many groups there are.
+    pub fn groups(&self) -> u32
+        ensures { λ r. ⌜ r ≡ groups-in (now (self .entry)) ⌝ }
+    {
+        group_of(
+            self.alone,
+            self.set.sizes.group_size,
+            self.set.sizes.workers,
+        )
+    }
+
+    // The first and the last worker of a group.
+    pub fn workers_in(&self, group: u32) -> Option<Workers>
+        ensures { λ r. ⌜ Cases r (NoGroup (now (self .entry) .alone) (now (self .entry) .set .sizes .«group_size») (now (self .entry) .set .sizes .workers) group) (λ w. Group (now (self .entry) .alone) (now (self .entry) .set .sizes .«group_size») (now (self .entry) .set .sizes .workers) group (w .first) (w .last)) ⌝ }
+    {
+        workers_of(
+            self.alone,
+            self.set.sizes.group_size,
+            self.set.sizes.workers,
+            group,
+        )
+    }
+
+    // The group that a model runs in.
+    pub fn group_of(&self, model: u32) -> Option<u32>
+        ensures { λ r. ⌜ Cases r (Model (now (self .entry) .set) model → ⊥) (λ g. Model (now (self .entry) .set) model × (g ≡ group-of (now (self .entry) .alone) (now (self .entry) .set .sizes .«group_size») (worker-of (pieces-at (now (self .entry) .pieces) (model - 1))))) ⌝ }
+    {
+        let worker = match self.pieces_of(model)? {
+            Pieces::Whole { worker, .. } => worker,
+            Pieces::Divided { worker, .. } => worker,
+        };
+        Some(group_of(self.alone, self.set.sizes.group_size, worker))
+    }
+}
