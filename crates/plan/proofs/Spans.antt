@@ -1,8 +1,8 @@
 -- The groups of workers, by division.
 use mathlib.Core.Path.{_≡_, sym, ap, _∙_}
 use mathlib.Core.Logic.{_⊎_, inl, inr, ⊎-elim}
-use Prim.Native.Nat.{ℕ, min, _+_, _-_, _*_, _/_, _<_, _≤_}
-use native.Mathlib.Nat.{add-mul, one-mul, div-eq-of-lt-le, div-mul-le-self, lt-div-mul-add, mul-le-mul-right, le-div-iff-mul-le}
+use Prim.Native.Nat.{ℕ, min, _+_, _-_, _*_, _/_, _%_, _<_, _≤_}
+use native.Mathlib.Nat.{add-mul, one-mul, div-eq-of-lt-le, div-mul-le-self, lt-div-mul-add, mul-le-mul-right, le-div-iff-mul-le, div-add-mod', mod-lt, pos-of-ne-zero}
 use native.Mathlib.Omega.{arith}
 use lib.Dec.{leb}
 use Rattle.std.proofs.shelf.Tests.{cond-true, cond-false, le-leb, lt-leb, cases-lt}
@@ -75,3 +75,14 @@ module _ (alone k : ℕ) (some : 1 ≤ k) where
         inside = λ p h h′. group-inside g p high h (omega arith);
         only = λ p h h′ e′. let r = group-only g p high e′ in (r .0, omega (arith, r .1));
       }
+
+  -- two neighbours are in one group, unless the group ends with the first of them
+  pub group-next : (p : ℕ) → alone < p → ((p - alone) % k ≡ 0 → ⊥) → group-of alone k p ≡ group-of alone k (p + 1)
+  group-next p high going =
+      let j = (p - alone) / k in
+      let whole = div-add-mod' (p - alone) k in
+      let rest = mod-lt (p - alone) some in
+      let some-rest : 0 < (p - alone) % k = pos-of-ne-zero going in
+      let here : (p - alone - 1) / k ≡ j = quotient (p - alone - 1) j (omega arith) (omega arith) in
+      let there : (p + 1 - alone - 1) / k ≡ j = ap (λ x. x / k) (omega arith) in
+      omega (arith, group-high p high, group-high (p + 1) (omega arith))

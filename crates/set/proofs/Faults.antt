@@ -8,9 +8,10 @@ use lib.ListN.{length, getD, replicate}
 use Rattle.std.specs.declared.option.Option.the-variants.{Some, None}
 use Rattle.std.proofs.shelf.Tests.{eq-eqb, cases-lt}
 use Rattle.std.proofs.shelf.Ways.{tells}
-use Rattle.std.proofs.shelf.Lists.{getD-append-left, getD-append-right, getD-past, getD-replicate, length-replicate}
+use Rattle.std.proofs.shelf.Lists.{getD-append-left, getD-append-right, getD-past}
 use Rattle.refusal.specs.Refusals.{first-below}
 use Rattle.refusal.proofs.Firsts.{none-below}
+use Rattle.set.proofs.Blanks.{getD-blank}
 use Rattle.set.specs.Limits.{about-sizes, about-model, about-models, about-figures}
 use Rattle.set.specs.Models.{Timed, Costed, Clear, slots-of}
 
@@ -21,19 +22,12 @@ past-sizes workers group grain costs periods level sizes = rw (eq-eqb (length co
 model-sound : (grain model cost period : ℕ) → about-model grain model cost period ≡ None → ((1 ≤ period) × (grain % period ≡ 0)) × ((1 ≤ cost) × (cost ≤ period))
 model-sound grain model cost period h = grind (arith, tells)
 
-zeros : (n i : ℕ) → _≡_ {A = ℕ} (getD (replicate n 0) i 0) 0
-zeros n i =
-    ⊎-elim
-    (λ (lt : i < n). getD-replicate n i 0 0 lt)
-    (λ (le : n ≤ i). getD-past (replicate n 0) i 0 (omega (arith, length-replicate {A = ℕ} n 0)))
-    (cases-lt i n)
-
 -- what stands in a slot, behind the last number too
 pub slot-is : (xs : List ℕ) (i : ℕ) → getD (slots-of xs) i 0 ≡ getD xs i 0
 slot-is xs i =
     ⊎-elim
     (λ (lt : i < length xs). getD-append-left xs (replicate (64 - length xs) 0) 0 i lt)
-    (λ (le : length xs ≤ i). getD-append-right xs (replicate (64 - length xs) 0) (length xs) i 0 refl le ∙ zeros (64 - length xs) (i - length xs) ∙ sym (getD-past xs i 0 le))
+    (λ (le : length xs ≤ i). getD-append-right xs (replicate (64 - length xs) 0) (length xs) i 0 refl le ∙ getD-blank (64 - length xs) (i - length xs) 0 ∙ sym (getD-past xs i 0 le))
     (cases-lt i (length xs))
 
 abbrev Lawful : ℕ → ℕ → List ℕ → List ℕ → Type 0

@@ -1,2 +1,3 @@
+pub mod Blanks
 pub mod Weights
 pub mod Faults

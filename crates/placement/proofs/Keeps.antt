@@ -1,0 +1,179 @@
+-- The four facts of a plan, from the rules.
+use mathlib.Core.Path.{_≡_, refl, sym, ap, _∙_}
+use mathlib.Core.Bool.{Bool, true, false, cond, not, _&&_, _||_}
+use mathlib.Core.Logic.{_⊎_, inl, inr, ⊎-elim}
+use Prim.Native.Nat.{ℕ, zero, suc, _+_, _-_, _*_, _%_, _<_, _≤_}
+use native.Mathlib.Nat.{add-zero}
+use native.Mathlib.Omega.{arith}
+use lib.Dec.{eqb, leb, ltb}
+use Rattle.std.specs.declared.option.Option.the-variants.{None}
+use Rattle.std.proofs.shelf.Tests.{cases-eq, cases-order, cond-false, leb-true, eqb-true, eqb-false, ltb-true, lt-leb, le-leb, eq-eqb, or-cases, and-parts, not-true, both-ways}
+use Rattle.refusal.specs.Refusals.{first-below}
+use Rattle.refusal.proofs.Firsts.{both-none, passed, none-below}
+use Rattle.set.specs.declared.sets.Set.{Set}
+use Rattle.set.specs.Sets.{models-of, grain-of, weight-of}
+use Rattle.set.proofs.Weights.{weighs}
+use Rattle.plan.specs.declared.pieces.Pieces.{Pieces}
+use Rattle.plan.specs.declared.pieces.Pieces.the-variants.{Whole, Divided}
+use Rattle.plan.specs.Shares.{worker-of, last-of, first-of, second-of}
+use Rattle.plan.specs.Groups.{group-of}
+use Rattle.plan.proofs.Spans.{group-next}
+use Rattle.placement.specs.declared.stands.Stand.{Stand}
+use Rattle.placement.specs.Rules.{fits, ends, heavy, heavies, alone-of, group-size-of, workers-of, stand, placed, room-for-light, about-light, about-placing}
+use Rattle.placement.proofs.Walks.{Seat, whole, fresh, split, Step, heavy-step, light-step, step, walked, heavies-rise}
+
+module _ (set : Set) where
+  pub heavies-le : (n : ℕ) → heavies set n ≤ n
+  heavies-le zero = omega arith
+  heavies-le (suc n) = go (step set n) (heavies-le n)
+    where
+      go : Step set n → heavies set n ≤ n → heavies set (suc n) ≤ suc n
+      go (heavy-step is more x t) h = omega arith
+      go (light-step no′ same seat) h = omega arith
+
+  heavies-more : (n : ℕ) → heavies set (suc n) ≤ heavies set n + 1
+  heavies-more n = go (step set n)
+    where
+      go : Step set n → heavies set (suc n) ≤ heavies set n + 1
+      go (heavy-step is more x t) = omega arith
+      go (light-step no′ same seat) = omega arith
+
+  heavies-less : (n i : ℕ) → i < n → heavy set i ≡ false → heavies set n < n
+  heavies-less zero i h e = absurd (omega arith)
+  heavies-less (suc n) i h e =
+      ⊎-elim
+      (λ (same : i ≡ n).
+      let light : heavy set n ≡ false = rw (← same) e in
+      omega (arith, heavies-le n, cond-false {A = ℕ} (heavy set n) 1 0 light))
+      (λ (ne : i ≡ n → ⊥). let r = heavies-less n i (omega arith) e in omega (arith, heavies-more n))
+      (cases-eq i n)
+
+  -- a light model that is not refused leaves the last worker only if it fits there
+  pub going : (i : ℕ) → heavy set i ≡ false → about-light set i ≡ None → grain-of set < stand set i .load + weight-of set i → stand set i .worker ≡ workers-of set → ⊥
+  going i light none over last =
+      ⊎-elim
+      (λ (is : heavy set i ≡ true). both-ways (heavy set i) light is)
+      (λ rest. ⊎-elim
+      (λ (fit : fits (grain-of set) (stand set i) (weight-of set i) ≡ true). omega (arith, leb-true (stand set i .load + weight-of set i) (grain-of set) fit))
+      (λ far. eqb-false (stand set i .worker) (workers-of set) (not-true _ far) last)
+      (or-cases _ _ rest))
+      (or-cases _ _ (passed _ _ _ none .0))
+
+  -- the walk stays on the workers as long as no model is refused
+  pub stand-within : (i : ℕ) → alone-of set < workers-of set → first-below (about-light set) i ≡ None → stand set i .worker ≤ workers-of set
+  stand-within zero room none = omega arith
+  stand-within (suc i) room none =
+      let parts = both-none (first-below (about-light set) i) (about-light set i) none in
+      next (step set i) (stand-within i room (parts .0)) (parts .1)
+    where
+      by-seat : heavy set i ≡ false → about-light set i ≡ None → stand set i .worker ≤ workers-of set → (x : Pieces) (t : Stand) → Seat (alone-of set) (group-size-of set) (grain-of set) (stand set i) (weight-of set i) x t → t .worker ≤ workers-of set
+      by-seat light fine before x t (whole fit ex et) = omega (arith, ap (λ s. s .worker) et)
+      by-seat light fine before x t (fresh over why ex et) = let ne = going i light fine over in omega (arith, ap (λ s. s .worker) et, ne)
+      by-seat light fine before x t (split over more some ex et) = let ne = going i light fine over in omega (arith, ap (λ s. s .worker) et, ne)
+
+      next : Step set i → stand set i .worker ≤ workers-of set → about-light set i ≡ None → stand set (suc i) .worker ≤ workers-of set
+      next (heavy-step is more x t) before fine = rw t before
+      next (light-step no′ same seat) before fine = by-seat no′ fine before (placed set i) (stand set (suc i)) seat
+
+  -- the walk never goes back
+  stand-rises : (j i : ℕ) → i ≤ j → stand set i .worker ≤ stand set j .worker
+  stand-rises zero i h = let e : i ≡ 0 = omega arith in rw e (omega arith)
+  stand-rises (suc j) i h =
+      ⊎-elim
+      (λ (e : i ≡ suc j). rw e (omega arith))
+      (λ (ne : i ≡ suc j → ⊥). let r = stand-rises j i (omega arith) in omega (arith, next (step set j)))
+      (cases-eq i (suc j))
+    where
+      by-seat : (x : Pieces) (t : Stand) → Seat (alone-of set) (group-size-of set) (grain-of set) (stand set j) (weight-of set j) x t → stand set j .worker ≤ t .worker
+      by-seat x t (whole fit ex et) = omega (arith, ap (λ s. s .worker) et)
+      by-seat x t (fresh over why ex et) = omega (arith, ap (λ s. s .worker) et)
+      by-seat x t (split over more some ex et) = omega (arith, ap (λ s. s .worker) et)
+
+      next : Step set j → stand set j .worker ≤ stand set (suc j) .worker
+      next (heavy-step is more x t) = omega (arith, ap (λ s. s .worker) t)
+      next (light-step no′ same seat) = by-seat (placed set j) (stand set (suc j)) seat
+
+  -- what the facts of a plan say of one model
+  pub record Well (i : ℕ) (x : Pieces) : Type 0 where
+    pub from-one : 1 ≤ worker-of x
+    pub within : last-of x ≤ workers-of set
+    pub adds : first-of x + second-of x ≡ weight-of set i
+    pub some-first : 1 ≤ first-of x
+    pub some-second : worker-of x < last-of x → 1 ≤ second-of x
+    pub grouped : group-of (alone-of set) (group-size-of set) (worker-of x) ≡ group-of (alone-of set) (group-size-of set) (last-of x)
+
+  -- the heavy models leave a worker for the light ones
+  pub enough : room-for-light set ≡ true → (alone-of set ≤ workers-of set) × ((i : ℕ) → i < models-of set → heavy set i ≡ false → alone-of set < workers-of set)
+  enough ok =
+      ⊎-elim
+      (λ less. let lt = ltb-true (alone-of set) (workers-of set) less in (omega arith, λ i h light. lt))
+      (λ level.
+      let parts = and-parts _ _ level in
+      let all = eqb-true (alone-of set) (models-of set) (parts .1) in
+      let e = eqb-true (alone-of set) (workers-of set) (parts .0) in
+      (omega arith, λ i h light. absurd (omega (arith, heavies-less (models-of set) i h light))))
+      (or-cases _ _ ok)
+
+  well-whole : (i q : ℕ) (x : Pieces) → i < models-of set → x ≡ Whole q (weight-of set i) → 1 ≤ q → q ≤ workers-of set → Well i x
+  well-whole i q x h e some in-m = rw e record {
+    from-one = some;
+    within = in-m;
+    adds = add-zero (weight-of set i);
+    some-first = weighs set i h .some;
+    some-second = λ lt. absurd (omega arith);
+    grouped = refl;
+  }
+
+  well-split : (i p first second : ℕ) (x : Pieces) → x ≡ Divided p first second → 1 ≤ p → p + 1 ≤ workers-of set → first + second ≡ weight-of set i → 1 ≤ first → 1 ≤ second → alone-of set < p → ends (alone-of set) (group-size-of set) p ≡ false → Well i x
+  well-split i p first second x e some in-m adds f s high more = rw e record {
+    from-one = some;
+    within = in-m;
+    adds = adds;
+    some-first = f;
+    some-second = λ lt. s;
+    grouped = group-next (alone-of set) (group-size-of set) (set .sizes .«some_group») p high (eqb-false ((p - alone-of set) % group-size-of set) 0 more);
+  }
+
+  pub well : (i : ℕ) → i < models-of set → room-for-light set ≡ true → first-below (about-light set) (suc i) ≡ None → Well i (placed set i)
+  well i h ok none = go (step set i)
+    where
+      by-seat : heavy set i ≡ false → (t : Stand) → t ≡ stand set (suc i) → Seat (alone-of set) (group-size-of set) (grain-of set) (stand set i) (weight-of set i) (placed set i) t → Well i (placed set i)
+      by-seat light t is (whole fit ex et) =
+          let room = enough ok .1 i h light in
+          let parts = both-none (first-below (about-light set) i) (about-light set i) none in
+          well-whole i (stand set i .worker) (placed set i) h ex (omega (arith, walked set i (omega arith) .floor)) (stand-within i room (parts .0))
+      by-seat light t is (fresh over why ex et) =
+          let room = enough ok .1 i h light in
+          well-whole i (stand set i .worker + 1) (placed set i) h ex (omega arith) (omega (arith, stand-within (suc i) room none, ap (λ s. s .worker) et, ap (λ s. s .worker) is))
+      by-seat light t is (split over more some ex et) =
+          let room = enough ok .1 i h light in
+          let now′ = walked set i (omega arith) in
+          well-split i (stand set i .worker) _ _ (placed set i) ex (omega (arith, now′ .floor))
+          (omega (arith, stand-within (suc i) room none, ap (λ s. s .worker) et, ap (λ s. s .worker) is))
+          (omega (arith, now′ .room)) (omega (arith, now′ .room, some)) (omega arith) (now′ .floor) more
+
+      go : Step set i → Well i (placed set i)
+      go (heavy-step is more x t) = well-whole i (heavies set i + 1) (placed set i) h x (omega arith) (omega (arith, enough ok .0, heavies-rise set (models-of set) (suc i) h))
+      go (light-step no′ same seat) = by-seat no′ (stand set (suc i)) refl seat
+
+  -- a divided model has the walk go on to the next worker
+  divides : (i : ℕ) → 0 < second-of (placed set i) → (worker-of (placed set i) ≡ stand set i .worker) × (stand set (suc i) .worker ≡ stand set i .worker + 1)
+  divides i some = go (step set i)
+    where
+      not-whole : (q w : ℕ) → placed set i ≡ Whole q w → ⊥
+      not-whole q w e = omega (arith, ap second-of e)
+
+      go : Step set i → (worker-of (placed set i) ≡ stand set i .worker) × (stand set (suc i) .worker ≡ stand set i .worker + 1)
+      go (heavy-step is more x t) = absurd (not-whole _ _ x)
+      go (light-step no′ same (whole fit ex et)) = absurd (not-whole _ _ ex)
+      go (light-step no′ same (fresh over why ex et)) = absurd (not-whole _ _ ex)
+      go (light-step no′ same (split over more some′ ex et)) = (ap worker-of ex, ap (λ s. s .worker) et)
+
+  pub one-first : (i j : ℕ) → 0 < second-of (placed set i) → 0 < second-of (placed set j) → worker-of (placed set i) ≡ worker-of (placed set j) → i ≡ j
+  one-first i j di dj e =
+      ⊎-elim
+      (λ (same : i ≡ j). same)
+      (⊎-elim
+      (λ (lt : i < j). absurd (omega (arith, divides i di .0, divides i di .1, divides j dj .0, stand-rises j (suc i) lt)))
+      (λ (gt : j < i). absurd (omega (arith, divides i di .0, divides j dj .0, divides j dj .1, stand-rises i (suc j) gt))))
+      (cases-order i j)

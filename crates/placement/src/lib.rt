@@ -1,0 +1,5 @@
+// Placement: from a checked set to a plan.
+mod places;
+mod stands;
+
+pub use places::place;
