@@ -1,0 +1,6 @@
+pub mod Digits
+pub mod Joins
+pub mod Lengths
+pub mod Pages
+pub mod Words
+pub mod Counts
