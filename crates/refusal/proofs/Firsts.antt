@@ -60,3 +60,8 @@ module _ (about : ℕ → Option Complaint) where
       (λ (same : i ≡ suc n). rw same e)
       (λ (ne : i ≡ suc n → ⊥). none-upto n i (omega arith) (both-none (first-below about n) (about n) e .0))
       (cases-eq i (suc n))
+
+  -- where there is no complaint about any of the things, there is none
+  pub none-of : (n : ℕ) → ((i : ℕ) → i < n → about i ≡ None) → first-below about n ≡ None
+  none-of zero each = refl
+  none-of (suc n) each = rw (none-of n (λ i h. each i (omega arith))) (each n (omega arith))

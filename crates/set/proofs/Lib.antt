@@ -1,3 +1,4 @@
 pub mod Blanks
 pub mod Weights
 pub mod Faults
+pub mod Sames

@@ -1,4 +1,6 @@
+ghost use mathlib.Core.Path.{_≡_};
 ghost use Prim.Native.Nat.{ℕ, _≤_};
+ghost use lib.ListN.{length};
 ghost use Rattle.set.specs.Models.{Timed, Costed, Clear};
 use crate::sizes::Sizes;
 
@@ -12,6 +14,8 @@ pub struct Set {
     ghost costed: { Costed (sizes .models) costs periods },
     ghost clear_costs: { Clear (sizes .models) costs },
     ghost clear_periods: { Clear (sizes .models) periods },
+    ghost full_costs: { length costs ≡ 64 },
+    ghost full_periods: { length periods ≡ 64 },
 }
 
 mod weights;

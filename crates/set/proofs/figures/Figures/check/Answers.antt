@@ -1,5 +1,5 @@
 use mathlib.Core.Path.{_≡_, _∙_}
-use Prim.Native.Nat.{_+_}
+use Prim.Native.Nat.{_+_, _≤_}
 use lib.ListN.{getD, length}
 use native.Mathlib.Omega.{arith}
 use Rattle.std.specs.declared.option.Option.the-variants.{None}
@@ -25,6 +25,7 @@ ghost-result c =
     let periods = c .args .self .now .periods .now in
     let made = c .in-Continue-sizes .ensures tt .1 in
     let level : length costs ≡ length periods = c .if-count-self .left in
+    let few : length costs ≤ 64 = omega (arith, made .0) in
     let all : c .loop-i .i ≡ length costs = omega arith in
     let none : about-models (c .args .self .now .grain) costs periods ≡ None = rw all at (c .loop-i .inv) in
-    lawful-slots (c .args .self .now .grain) costs periods level none _ _ _ _ (made .0) (made .3) (c .slots .ensures) (c .slots-2 .ensures)
+    lawful-slots (c .args .self .now .grain) costs periods few level none _ _ _ _ (made .0) (made .3) (c .slots .ensures) (c .slots-2 .ensures)
