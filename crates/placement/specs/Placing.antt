@@ -1,14 +1,14 @@
 -- What placement answers.
 use mathlib.Core.Path.{_≡_}
-use mathlib.Core.Bool.{true}
 use mathlib.Core.List.{List}
 use Prim.Native.Nat.{ℕ, _+_, _*_, _<_, _≤_}
 use Rattle.std.specs.declared.result.Result.{Result}
-use Rattle.std.specs.Results.{isOk}
+use Rattle.std.specs.declared.result.Result.the-variants.{Ok, Err}
 use Rattle.refusal.specs.Refusals.{Answers}
 use Rattle.refusal.specs.declared.Refusal.{Refusal}
 use Rattle.set.specs.declared.sets.Set.{Set}
 use Rattle.set.specs.Sets.{models-of, grain-of}
+use Rattle.setfile.specs.Reading.{Reads}
 use Rattle.plan.specs.declared.pieces.Pieces.{Pieces}
 use Rattle.plan.specs.declared.plans.Plan.{Plan}
 use Rattle.plan.specs.Shares.{pieces-at, nowhere}
@@ -33,3 +33,13 @@ abbrev pub Modest : Set → Type 0
 Modest set =
     (group-size-of set < workers-of set → total-weight set (models-of set) * (group-size-of set + 1) ≤ workers-of set * grain-of set * group-size-of set)
     × (group-size-of set ≡ workers-of set → total-weight set (models-of set) ≤ workers-of set * grain-of set)
+
+-- a file that reads as a set gives what placing the set gives, and any other its refusal, unaltered
+abbrev pub PlacesRead : Result Set Refusal → Result Plan Refusal → Type 0
+PlacesRead (Ok set) r = Places set r
+PlacesRead (Err e) r = r ≡ Err e
+
+pub record PlacesFile (bytes : List ℕ) (r : Result Plan Refusal) : Type 0 where
+  pub read : Result Set Refusal
+  pub reads : Reads bytes read
+  pub places : PlacesRead read r

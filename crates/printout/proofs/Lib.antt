@@ -4,3 +4,4 @@ pub mod Lengths
 pub mod Pages
 pub mod Words
 pub mod Counts
+pub mod Sizes

@@ -5,14 +5,14 @@ ghost use Prim.Native.Nat.{ℕ, _+_, _≤_};
 ghost use denote.Ref.{name};
 ghost use lib.ListN.{length};
 ghost use Rattle.printout.specs.Pages.{memory, Appends};
-ghost use Rattle.printout.specs.Texts.{refusal-text, pieces-text, loads-text, models-text, plan-text};
+ghost use Rattle.printout.specs.Texts.{refusal-text, pieces-text, loads-text, models-text, plan-text, text-of};
 use crate::page::Page;
 use plan::pieces::Pieces;
 use plan::plans::Plan;
 use refusal::Refusal;
 
 // The one line of a refusal.
-pub(crate) fn refusal_line(page: &mut Page<'_>, refusal: Refusal)
+fn refusal_line(page: &mut Page<'_>, refusal: Refusal)
     requires { ⌜ now page .len + length (refusal-text refusal) ≤ length (memory (now page)) ⌝ }
     ensures appends { λ _. ⌜ Appends (now (page .entry)) (refusal-text refusal) (now (page .exit)) ⌝ }
     ensures lent { λ _. ⌜ name (now (page .exit) .bytes) ≡ name (now (page .entry) .bytes) ⌝ }
@@ -66,7 +66,7 @@ fn model_lines(page: &mut Page<'_>, plan: &Plan)
 }
 
 // All lines of a plan.
-pub(crate) fn plan_lines(page: &mut Page<'_>, plan: &Plan)
+fn plan_lines(page: &mut Page<'_>, plan: &Plan)
     requires { ⌜ now page .len + length (plan-text (now plan)) ≤ length (memory (now page)) ⌝ }
     ensures appends { λ _. ⌜ Appends (now (page .entry)) (plan-text (now (plan .entry))) (now (page .exit)) ⌝ }
     ensures lent { λ _. ⌜ name (now (page .exit) .bytes) ≡ name (now (page .entry) .bytes) ⌝ }
@@ -84,4 +84,16 @@ pub(crate) fn plan_lines(page: &mut Page<'_>, plan: &Plan)
     load_lines(page, plan);
     model_lines(page, plan);
     page.line("end", &[]);
+}
+
+// All lines of what placing a file gave.
+pub(crate) fn text_lines(page: &mut Page<'_>, placed: Result<Plan, Refusal>)
+    requires { ⌜ now page .len + length (text-of placed) ≤ length (memory (now page)) ⌝ }
+    ensures appends { λ _. ⌜ Appends (now (page .entry)) (text-of placed) (now (page .exit)) ⌝ }
+    ensures lent { λ _. ⌜ name (now (page .exit) .bytes) ≡ name (now (page .entry) .bytes) ⌝ }
+{
+    match placed {
+        Ok(plan) => plan_lines(page, &plan),
+        Err(refusal) => refusal_line(page, refusal),
+    }
 }

@@ -19,6 +19,6 @@ returns c =
         set = set;
         made = checked .1;
         bytes = bytes;
-        back = written-back set _ (c .args .buffer .now) _ (omega (arith, checked .1 .models)) bytes
-      }
+        back = written-back set _ (c .args .buffer .now) _ (omega (arith, checked .1 .models)) bytes;
+      };
     }

@@ -11,12 +11,13 @@ line-requires c κs =
     written-fits (load-text (c .args .plan .now)) (c .args .plan .now .set .sizes .workers) (c .loop-p .p) _ _ (c .loop-p-test .taken) (c .loop-p .inv .0) (c .pre)
 
 pub loop-p-again : need.loop-p-again
-loop-p-again c =
-    ( written-more (load-text (c .args .plan .now)) (c .args .plan .now .set .sizes .workers) (c .loop-p .p) _ _ (c .loop-p-test .taken) (c .loop-p .inv .0) _ (c .line .ensures .appends)
-    , c .line .ensures .lent ∙ c .loop-p .inv .1 )
+loop-p-again c = (
+  written-more (load-text (c .args .plan .now)) (c .args .plan .now .set .sizes .workers) (c .loop-p .p) _ _ (c .loop-p-test .taken) (c .loop-p .inv .0) _ (c .line .ensures .appends),
+  c .line .ensures .lent ∙ c .loop-p .inv .1,
+)
 
 pub returns : need.returns
 returns c = record {
   appends = written-all (load-text (c .args .plan .now)) (c .args .plan .now .set .sizes .workers) (c .loop-p .p) _ _ (c .loop-p-test .left) (c .loop-p .inv .0);
-  lent = c .loop-p .inv .1
+  lent = c .loop-p .inv .1;
 }

@@ -36,5 +36,5 @@ returns-in-Divided c =
     let r = c .line-in-Divided-2 .last .self in
     record {
       appends = rw (d .is) (appends-append p q r (piece (c .args .model) (d .worker) (d .first)) (piece (c .args .model) (d .worker + 1) (d .second)) (c .line-in-Divided .ensures .appends) (c .line-in-Divided-2 .ensures .appends));
-      lent = search needs
+      lent = search needs;
     }

@@ -62,5 +62,5 @@ returns c =
           appends-append p q t (sizes-text plan) (loads-left plan) (c .line .ensures .appends)
           (appends-append q r t (loads-text plan) (models-left plan) (c .load-lines .ensures .appends)
           (appends-append r s t (models-text plan) end-text (c .model-lines .ensures .appends) (c .line-2 .ensures .appends)));
-      lent = search needs
+      lent = search needs;
     }

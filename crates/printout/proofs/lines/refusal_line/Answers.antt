@@ -52,10 +52,10 @@ put-requires-3 c κs =
     let s = c .put-2 .last .self in
     let number = appends-same q r _ _ (ap decimal (c .number .ensures)) (c .number-2 .ensures .appends) in
     let fits =
-        fits-rest r s (codes " ") (word-left e)
-        (fits-rest q r (decimal (number-of (e .fault))) (space-left e)
-        (fits-rest p q (codes "refused ") (number-left e) (c .pre) (c .put .ensures .appends)) number)
-        (c .put-2 .ensures .appends) in
+    fits-rest r s (codes " ") (word-left e)
+    (fits-rest q r (decimal (number-of (e .fault))) (space-left e)
+    (fits-rest p q (codes "refused ") (number-left e) (c .pre) (c .put .ensures .appends)) number)
+    (c .put-2 .ensures .appends) in
     omega (arith, fits-first s (word-of (e .layer)) (place-left e) fits, ap length (c .as-bytes .ensures .value ∙ c .word .ensures))
 
 pub line-requires : need.line-requires
@@ -91,5 +91,5 @@ returns c =
           (appends-append q r u (decimal (number-of (e .fault))) (space-left e) number
           (appends-append r s u (codes " ") (word-left e) (c .put-2 .ensures .appends)
           (appends-append s t u (word-of (e .layer)) (place-left e) word (c .line .ensures .appends))));
-      lent = search needs
+      lent = search needs;
     }
