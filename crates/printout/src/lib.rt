@@ -1,7 +1,8 @@
 // What is printed of a set file, as text in memory that the caller lends.
 ghost use mathlib.Core.Path.{_≡_};
+ghost use Prim.Native.Nat.{_≤_};
 ghost use lib.ListN.{length};
-ghost use Rattle.std.specs.Vec.{refused};
+ghost use Rattle.std.specs.Vec.{made, refused};
 ghost use Rattle.refusal.specs.Refusals.{Answers};
 ghost use Rattle.printout.specs.Printing.{about-memory, Printed};
 use lines::text_lines;
@@ -20,6 +21,7 @@ pub const TEXT_BYTES: usize = 16384;
 // Prints the plan of a set file, or the refusal of it, and answers the bytes of the text.
 pub fn print_file(bytes: &[u8], text: &mut [u8]) -> Result<usize, Refusal>
     ensures prints { λ r. ⌜ Answers (about-memory (length (now (text .entry)))) r (Printed (now (bytes .entry)) (now (text .entry)) (now (text .exit))) ⌝ }
+    ensures bound { λ r. ⌜ made r (λ n. n ≤ length (now (text .exit))) ⌝ }
     ensures stays { λ r. ⌜ refused r (λ _. now (text .exit) ≡ now (text .entry)) ⌝ }
 {
     if text.len() < TEXT_BYTES {

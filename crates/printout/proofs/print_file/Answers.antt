@@ -35,5 +35,6 @@ returns c =
           text = (search needs) ∙ (all .front ∙ ap (λ n. text-of placed ++ drop n old) (sym size));
         },
       );
+      bound = let most = text-most placed in omega (arith, size);
       stays = tt;
     }
