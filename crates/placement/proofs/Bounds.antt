@@ -154,7 +154,7 @@ module _ (set : Set) where
       let r = heavy-heavy n in
       ⊎-elim
       (λ (is : heavy set n ≡ true).
-      let more : group-size-of set * grain-of set < weight-of set n * (group-size-of set + 1) = ltb-true _ _ (and-parts _ _ is .1) in
+      let more : group-size-of set * grain-of set < weight-of set n * (group-size-of set + 1) = ltb-true (group-size-of set * grain-of set) (weight-of set n * (group-size-of set + 1)) (and-parts (ltb (group-size-of set) (workers-of set)) (ltb (group-size-of set * grain-of set) (weight-of set n * (group-size-of set + 1))) is .1) in
       rw (cond-true {A = ℕ} (heavy set n) 1 0 is, cond-true (heavy set n) (weight-of set n) 0 is) (omega arith))
       (λ (is-not : heavy set n ≡ false).
       rw (cond-false {A = ℕ} (heavy set n) 1 0 is-not, cond-false (heavy set n) (weight-of set n) 0 is-not) (omega arith))
@@ -174,7 +174,7 @@ module _ (set : Set) where
       ⊎-elim
       (λ (narrow : group-size-of set < workers-of set).
       ⊎-elim
-      (λ wide. absurd (omega (arith, ltb-false (group-size-of set) (workers-of set) wide)))
+      (λ (wide : ltb (group-size-of set) (workers-of set) ≡ false). absurd (omega (arith, ltb-false (group-size-of set) (workers-of set) wide)))
       (λ lean. ltb-false _ _ lean)
       (and-cases _ _ light))
       (λ (wide : workers-of set ≤ group-size-of set).

@@ -35,7 +35,7 @@ module _ (alone k : ℕ) (some : 1 ≤ k) where
       (cases-lt alone p)
 
   -- the groups are numbered from 1 up to that of the last worker
-  pub no-group : (m g : ℕ) → (g < 1) ⊎ (group-of alone k m < g) → NoGroup alone k m g
+  pub no-group : (m g : ℕ) → (g < 1) ⊎ (group-of alone k m < g) → NoGroup (group-of alone k) m g
   no-group m g out p some-p in-m e = ⊎-elim (λ (low : g < 1). omega (arith, group-some p some-p)) (λ (high : group-of alone k m < g). omega (arith, group-rises p m in-m)) out
 
   -- behind the groups of one, group g begins with this worker
@@ -65,7 +65,7 @@ module _ (alone k : ℕ) (some : 1 ≤ k) where
       (λ (le : p ≤ alone). absurd (omega (arith, group-low p le)))
       (cases-lt alone p)
 
-  pub group-among : (m g last : ℕ) → alone < g → g ≤ group-of alone k m → last ≡ min (first-of g + k - 1) m → Group alone k m g (first-of g) last
+  pub group-among : (m g last : ℕ) → alone < g → g ≤ group-of alone k m → last ≡ min (first-of g + k - 1) m → Group (group-of alone k) m g (first-of g) last
   group-among m g last high top e =
       let first-in = first-within m g high top in
       record {

@@ -8,6 +8,10 @@ pub record Worker (plan : Plan) (worker : ℕ) : Type 0 where
   pub first : 1 ≤ worker
   pub last : worker ≤ plan .set .sizes .workers
 
+-- the group of worker p
+abbrev pub group-in : Plan → ℕ → ℕ
+group-in plan p = group-of (plan .alone) (plan .set .sizes .«group_size») p
+
 -- groups are numbered from 1 in the workers' order, so there are as many as the last worker's group says
 abbrev pub groups-in : Plan → ℕ
-groups-in plan = group-of (plan .alone) (plan .set .sizes .«group_size») (plan .set .sizes .workers)
+groups-in plan = group-in plan (plan .set .sizes .workers)

@@ -8,14 +8,14 @@ use lib.Dec.{leb}
 abbrev pub group-of : ℕ → ℕ → ℕ → ℕ
 group-of alone k p = cond (leb p alone) p (alone + 1 + (p - alone - 1) / k)
 
--- the group g of m workers is just those from first to last
-pub record Group (alone k m g first last : ℕ) : Type 0 where
+-- where each of m workers has a group, group g is just those from first to last
+pub record Group (group : ℕ → ℕ) (m g first last : ℕ) : Type 0 where
   pub from-one : 1 ≤ first
   pub some : first ≤ last
   pub within : last ≤ m
-  pub inside : (p : ℕ) → first ≤ p → p ≤ last → group-of alone k p ≡ g
-  pub only : (p : ℕ) → 1 ≤ p → p ≤ m → group-of alone k p ≡ g → (first ≤ p) × (p ≤ last)
+  pub inside : (p : ℕ) → first ≤ p → p ≤ last → group p ≡ g
+  pub only : (p : ℕ) → 1 ≤ p → p ≤ m → group p ≡ g → (first ≤ p) × (p ≤ last)
 
 -- none of m workers is in group g
-abbrev pub NoGroup : ℕ → ℕ → ℕ → ℕ → Type 0
-NoGroup alone k m g = (p : ℕ) → 1 ≤ p → p ≤ m → group-of alone k p ≡ g → ⊥
+abbrev pub NoGroup : (ℕ → ℕ) → ℕ → ℕ → Type 0
+NoGroup group m g = (p : ℕ) → 1 ≤ p → p ≤ m → group p ≡ g → ⊥

@@ -27,7 +27,7 @@ pub(crate) fn workers_of(alone: u32, group_size: u32, workers: u32, group: u32) 
     requires { ⌜ 1 ≤ «group_size» ⌝ }
     requires { ⌜ «group_size» ≤ workers ⌝ }
     requires { ⌜ workers ≤ 32 ⌝ }
-    ensures { λ r. ⌜ Cases r (NoGroup alone «group_size» workers group) (λ w. Group alone «group_size» workers group (w .first) (w .last)) ⌝ }
+    ensures { λ r. ⌜ Cases r (NoGroup (group-of alone «group_size») workers group) (λ w. Group (group-of alone «group_size») workers group (w .first) (w .last)) ⌝ }
 {
     let groups = group_of(alone, group_size, workers);
     if group < 1 || group > groups {

@@ -3,7 +3,11 @@ use mathlib.Core.Path.{_≡_}
 use mathlib.Core.List.{List}
 use Prim.Native.Nat.{ℕ, _*_, _/_, _≤_}
 use lib.ListN.{length, getD}
+use Rattle.std.specs.declared.option.Option.{Option}
+use Rattle.refusal.specs.Refusals.{Complaint}
+use Rattle.set.specs.Limits.{about-figures}
 use Rattle.set.specs.Models.{slots-of}
+use Rattle.set.specs.declared.figures.Figures.{Figures}
 use Rattle.set.specs.declared.sets.Set.{Set}
 
 module _ (set : Set) where
@@ -27,7 +31,7 @@ module _ (set : Set) where
   abbrev pub parts-of : ℕ → ℕ
   parts-of i = cost-of i * grain-of
 
--- the set has just these sizes, costs and periods
+-- a set has just these sizes, costs and periods
 pub record Made (workers group grain : ℕ) (costs periods : List ℕ) (set : Set) : Type 0 where
   pub models : set .sizes .models ≡ length costs
   pub workers′ : set .sizes .workers ≡ workers
@@ -35,6 +39,14 @@ pub record Made (workers group grain : ℕ) (costs periods : List ℕ) (set : Se
   pub grain′ : set .sizes .grain ≡ grain
   pub costs′ : set .costs ≡ slots-of costs
   pub periods′ : set .periods ≡ slots-of periods
+
+-- the set is made of just these figures
+abbrev pub MadeOf : Figures → Set → Type 0
+MadeOf f set = Made (f .workers) (f .«group_size») (f .grain) (f .costs .now) (f .periods .now) set
+
+-- all that can be wrong with the figures, the first fault first
+abbrev pub about : Figures → Option Complaint
+about f = about-figures (f .workers) (f .«group_size») (f .grain) (f .costs .now) (f .periods .now)
 
 -- a model of the set has this number
 pub record Model (set : Set) (model : ℕ) : Type 0 where

@@ -2,9 +2,9 @@ ghost use mathlib.Core.Path.{_≡_};
 ghost use Prim.Native.Nat.{ℕ, _+_, _≤_};
 ghost use lib.ListN.{length};
 ghost use Rattle.refusal.specs.Refusals.{Answers};
-ghost use Rattle.set.specs.Limits.{about-figures, about-model};
+ghost use Rattle.set.specs.Limits.{about-model};
 ghost use Rattle.set.specs.Models.{slots-of};
-ghost use Rattle.set.specs.Sets.{Made};
+ghost use Rattle.set.specs.Sets.{about, MadeOf};
 use crate::sets::Set;
 use crate::sizes::Sizes;
 use crate::sizes::checks::outside;
@@ -25,7 +25,7 @@ pub struct Figures<'a> {
 impl Figures<'_> {
     // The set of these figures, or a refusal for the first fault in them.
     pub fn check(&self) -> Result<Set, Refusal>
-        ensures { λ r. ⌜ Answers (about-figures (now (self .entry) .workers) (now (self .entry) .«group_size») (now (self .entry) .grain) (now (now (self .entry) .costs)) (now (now (self .entry) .periods))) r (λ s. Made (now (self .entry) .workers) (now (self .entry) .«group_size») (now (self .entry) .grain) (now (now (self .entry) .costs)) (now (now (self .entry) .periods)) s) ⌝ }
+        ensures { λ r. ⌜ Answers (about (now (self .entry))) r (MadeOf (now (self .entry))) ⌝ }
     {
         let count = self.costs.len();
         if count != self.periods.len() {

@@ -17,7 +17,8 @@ use Rattle.refusal.specs.Refusals.{Answers}
 use Rattle.refusal.specs.declared.Refusal.{Refusal}
 use Rattle.set.specs.Limits.{about-sizes, about-figures}
 use Rattle.set.specs.Models.{slots-of}
-use Rattle.set.specs.Sets.{models-of, Made}
+use Rattle.set.specs.declared.figures.Figures.{Figures}
+use Rattle.set.specs.Sets.{models-of, Made, about}
 use Rattle.set.specs.declared.sizes.Sizes.{Sizes}
 use Rattle.set.specs.declared.sets.Set.{Set}
 use Rattle.refusal.proofs.Firsts.{passed}
@@ -67,8 +68,8 @@ module _ (workers group grain : ℕ) (costs periods : List ℕ) (level : length 
       all = omega (arith, length-append costs periods)
 
 -- figures without a fault fit into room for their file
-pub room-enough : (workers group grain : ℕ) (costs periods : List ℕ) (room : ℕ) → about-figures workers group grain costs periods ≡ None → size-for (length costs) ≤ room → about-writing workers group grain costs periods room ≡ None
-room-enough workers group grain costs periods room none enough = rw (none, le-leb (size-for (length costs)) room enough) refl
+pub room-enough : (f : Figures) (room : ℕ) → about f ≡ None → size-for (length (f .costs .now)) ≤ room → about-writing f room ≡ None
+room-enough f room none enough = rw (none, le-leb (size-for (length (f .costs .now))) room enough) refl
 
 -- bytes that begin with sizes and have the length that they ask for
 module _ (bytes : List ℕ) (fits : (i : ℕ) → getD bytes i 0 < 256) (sizes : Sizes) (heads : Heads bytes sizes) (level : length bytes ≡ size-for (sizes .models)) where

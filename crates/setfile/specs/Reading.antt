@@ -12,8 +12,9 @@ use Rattle.refusal.specs.Refusals.{Complaint, check, or-else, Answers}
 use Rattle.refusal.specs.declared.Layer.the-variants.{File}
 use Rattle.refusal.specs.declared.Refusal.{Refusal}
 use Rattle.set.specs.declared.sets.Set.{Set}
-use Rattle.set.specs.Sets.{Made}
-use Rattle.set.specs.Limits.{about-sizes, about-models, about-figures}
+use Rattle.set.specs.declared.figures.Figures.{Figures}
+use Rattle.set.specs.Sets.{about, MadeOf}
+use Rattle.set.specs.Limits.{about-sizes, about-models}
 use Rattle.setfile.specs.Format.{file-of, word-at, words-at}
 
 -- fewer bytes than there should be, and more than that
@@ -41,14 +42,14 @@ abbrev pub Reads : List ℕ → Result Set Refusal → Type 0
 Reads bytes r = Answers (about-file bytes) r (λ set. bytes ≡ file-of set)
 
 -- all that can be wrong when figures are written to a buffer of some bytes
-abbrev pub about-writing : ℕ → ℕ → ℕ → List ℕ → List ℕ → ℕ → Option Complaint
-about-writing workers group grain costs periods room =
-    or-else (about-figures workers group grain costs periods)
-    (check (leb (size-for (length costs)) room) (too-short room) None)
+abbrev pub about-writing : Figures → ℕ → Option Complaint
+about-writing f room =
+    or-else (about f)
+    (check (leb (size-for (length (f .costs .now))) room) (too-short room) None)
 
 -- the first n bytes after the writing are the file of the figures' set, and read back as that set; the others stay as they were before
-pub record Wrote (workers group grain : ℕ) (costs periods : List ℕ) (n : ℕ) (before after : List ℕ) : Type 0 where
+pub record Wrote (f : Figures) (n : ℕ) (before after : List ℕ) : Type 0 where
   pub set : Set
-  pub made : Made workers group grain costs periods set
+  pub made : MadeOf f set
   pub bytes : after ≡ file-of set ++ drop n before
   pub back : (r : Result Set Refusal) → Reads (take n after) r → r ≡ Ok set

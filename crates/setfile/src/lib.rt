@@ -56,8 +56,8 @@ pub fn read(bytes: &[u8]) -> Result<Set, Refusal>
 
 // Writes the file of the set that the figures make, and answers its bytes. A refusal leaves the buffer.
 pub fn write(figures: &Figures, buffer: &mut [u8]) -> Result<usize, Refusal>
-    ensures answers { λ r. ⌜ Answers (about-writing (now (figures .entry) .workers) (now (figures .entry) .«group_size») (now (figures .entry) .grain) (now (now (figures .entry) .costs)) (now (now (figures .entry) .periods)) (length (now (buffer .entry)))) r (λ n. n ≡ size-for (length (now (now (figures .entry) .costs)))) ⌝ }
-    ensures written { λ r. ⌜ Cases r (λ n. Wrote (now (figures .entry) .workers) (now (figures .entry) .«group_size») (now (figures .entry) .grain) (now (now (figures .entry) .costs)) (now (now (figures .entry) .periods)) n (now (buffer .entry)) (now (buffer .exit))) (λ _. now (buffer .exit) ≡ now (buffer .entry)) ⌝ }
+    ensures answers { λ r. ⌜ Answers (about-writing (now (figures .entry)) (length (now (buffer .entry)))) r (λ n. n ≡ size-for (length (now (now (figures .entry) .costs)))) ⌝ }
+    ensures written { λ r. ⌜ Cases r (λ n. Wrote (now (figures .entry)) n (now (buffer .entry)) (now (buffer .exit))) (λ _. now (buffer .exit) ≡ now (buffer .entry)) ⌝ }
 {
     let set = figures.check()?;
     let count = figures.costs.len();

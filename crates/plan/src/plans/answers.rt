@@ -4,8 +4,8 @@ ghost use lib.ListN.{getD};
 ghost use Rattle.std.specs.Options.{Cases};
 ghost use Rattle.set.specs.Sets.{Model};
 ghost use Rattle.plan.specs.Shares.{pieces-at, worker-of};
-ghost use Rattle.plan.specs.Groups.{group-of, Group, NoGroup};
-ghost use Rattle.plan.specs.Answers.{Worker, groups-in};
+ghost use Rattle.plan.specs.Groups.{Group, NoGroup};
+ghost use Rattle.plan.specs.Answers.{Worker, group-in, groups-in};
 use super::Plan;
 use crate::groups::Workers;
 use crate::groups::group_of;
@@ -61,7 +61,7 @@ impl Plan {
 
     // The first and the last worker of a group.
     pub fn workers_in(&self, group: u32) -> Option<Workers>
-        ensures { λ r. ⌜ Cases r (NoGroup (now (self .entry) .alone) (now (self .entry) .set .sizes .«group_size») (now (self .entry) .set .sizes .workers) group) (λ w. Group (now (self .entry) .alone) (now (self .entry) .set .sizes .«group_size») (now (self .entry) .set .sizes .workers) group (w .first) (w .last)) ⌝ }
+        ensures { λ r. ⌜ Cases r (NoGroup (group-in (now (self .entry))) (now (self .entry) .set .sizes .workers) group) (λ w. Group (group-in (now (self .entry))) (now (self .entry) .set .sizes .workers) group (w .first) (w .last)) ⌝ }
     {
         workers_of(
             self.alone,
@@ -73,7 +73,7 @@ impl Plan {
 
     // The group that a model runs in.
     pub fn group_of(&self, model: u32) -> Option<u32>
-        ensures { λ r. ⌜ Cases r (Model (now (self .entry) .set) model → ⊥) (λ g. Model (now (self .entry) .set) model × (g ≡ group-of (now (self .entry) .alone) (now (self .entry) .set .sizes .«group_size») (worker-of (pieces-at (now (self .entry) .pieces) (model - 1))))) ⌝ }
+        ensures { λ r. ⌜ Cases r (Model (now (self .entry) .set) model → ⊥) (λ g. Model (now (self .entry) .set) model × (g ≡ group-in (now (self .entry)) (worker-of (pieces-at (now (self .entry) .pieces) (model - 1))))) ⌝ }
     {
         let worker = match self.pieces_of(model)? {
             Pieces::Whole { worker, .. } => worker,

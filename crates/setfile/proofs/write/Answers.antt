@@ -14,7 +14,7 @@ returns c =
     let level = level-from (figures .workers) (figures .«group_size») (figures .grain) (figures .costs .now) (figures .periods .now) (checked .0) in
     let bytes = writes-file (figures .workers) (figures .«group_size») (figures .grain) (figures .costs .now) (figures .periods .now) level set (checked .1) (c .args .buffer .now) _ _ _ (c .put-words .ensures) (c .put-words-2 .ensures) (c .put-words-3 .ensures) (omega arith) (omega arith) in
     record {
-      answers = (room-enough (figures .workers) (figures .«group_size») (figures .grain) (figures .costs .now) (figures .periods .now) _ (checked .0) (omega arith), omega arith);
+      answers = (room-enough figures _ (checked .0) (omega arith), omega arith);
       written = record {
         set = set;
         made = checked .1;
