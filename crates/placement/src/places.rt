@@ -16,6 +16,8 @@ use refusal::Fault;
 use refusal::Layer;
 use refusal::Refusal;
 use set::sets::Set;
+use set::sizes::MODELS;
+use set::sizes::WORKERS;
 
 // The plan of a set, by the rules. No set that weighs little enough is refused.
 pub fn place(set: &Set) -> Result<Plan, Refusal>
@@ -35,7 +37,7 @@ pub fn place(set: &Set) -> Result<Plan, Refusal>
 }
 
 // Where each model goes, or a refusal for the first light one that finds no room.
-fn seat_all(set: &Set, alone: u32) -> Result<[Pieces; 64], Refusal>
+fn seat_all(set: &Set, alone: u32) -> Result<[Pieces; MODELS], Refusal>
     requires alone { ⌜ alone ≡ alone-of (now set) ⌝ }
     requires room { ⌜ room-for-light (now set) ≡ true ⌝ }
     ensures { λ r. ⌜ Answers (first-below (about-light (now (set .entry))) (models-of (now (set .entry)))) r (Seated (now (set .entry)) (models-of (now (set .entry)))) ⌝ }
@@ -45,7 +47,7 @@ fn seat_all(set: &Set, alone: u32) -> Result<[Pieces; 64], Refusal>
         worker: alone + 1,
         load: 0,
     };
-    let mut pieces = [Pieces::Whole { worker: 0, size: 0 }; 64];
+    let mut pieces = [Pieces::Whole { worker: 0, size: 0 }; MODELS];
     for i in 0..set.sizes.models as usize {
         let weight = weight_at(set, i);
         pieces[i] = if is_heavy(set, weight) {
@@ -64,13 +66,13 @@ fn seat_all(set: &Set, alone: u32) -> Result<[Pieces; 64], Refusal>
 }
 
 // The loads that the first n models put on the workers.
-fn loads_of(pieces: &[Pieces; 64], n: usize) -> [u32; 32]
+fn loads_of(pieces: &[Pieces; MODELS], n: usize) -> [u32; WORKERS]
     requires few { ⌜ n ≤ 64 ⌝ }
     requires within { ⌜ ((i : ℕ) → i < n → (1 ≤ worker-of (pieces-at (now pieces) i)) × (last-of (pieces-at (now pieces) i) ≤ 32)) ⌝ }
     requires room { ⌜ ((p : ℕ) → carried (pieces-at (now pieces)) p n ≤ 100800) ⌝ }
     ensures { λ r. ⌜ ((p : ℕ) → p < 32 → getD r p 0 ≡ carried (pieces-at (now (pieces .entry))) (p + 1) n) ⌝ }
 {
-    let mut loads = [0; 32];
+    let mut loads = [0; WORKERS];
     for i in 0..n {
         add_pieces(&mut loads, pieces[i]);
     }
@@ -78,7 +80,7 @@ fn loads_of(pieces: &[Pieces; 64], n: usize) -> [u32; 32]
 }
 
 // Adds what these pieces put on their workers.
-fn add_pieces(loads: &mut [u32; 32], pieces: Pieces)
+fn add_pieces(loads: &mut [u32; WORKERS], pieces: Pieces)
     requires first { ⌜ 1 ≤ worker-of pieces ⌝ }
     requires last { ⌜ last-of pieces ≤ 32 ⌝ }
     requires room { ⌜ ((p : ℕ) → p < 32 → getD (now loads) p 0 + on-worker (p + 1) pieces < 2 ^ 32) ⌝ }

@@ -21,7 +21,13 @@ pub(crate) struct Stand {
 impl Stand {
     // Where a light model goes, or a refusal where it does not fit on the last worker.
     // Workers 1 to `alone` are groups of one.
-    pub fn seat(self, sizes: Sizes, alone: u32, model: u64, weight: u32) -> Result<Pieces, Refusal>
+    pub(crate) fn seat(
+        self,
+        sizes: Sizes,
+        alone: u32,
+        model: u64,
+        weight: u32,
+    ) -> Result<Pieces, Refusal>
         requires floor { ⌜ alone < self .worker ⌝ }
         requires last { ⌜ self .worker ≤ sizes .workers ⌝ }
         requires room { ⌜ self .load ≤ sizes .grain ⌝ }
@@ -57,7 +63,7 @@ impl Stand {
     }
 
     // Where the model after these pieces is tried.
-    pub fn moved(self, pieces: Pieces) -> Stand
+    pub(crate) fn moved(self, pieces: Pieces) -> Stand
         requires { ⌜ moved self pieces .worker ≤ 32 ⌝ }
         requires { ⌜ moved self pieces .load ≤ 100800 ⌝ }
         ensures { λ r. ⌜ r ≡ moved self pieces ⌝ }

@@ -2,6 +2,8 @@ ghost use Prim.Native.Nat.{ℕ, _≤_};
 ghost use Rattle.plan.specs.Facts.{Loaded, Shared, Grouped, OneFirst, OneSecond, Lasting};
 use crate::pieces::Pieces;
 use set::sets::Set;
+use set::sizes::MODELS;
+use set::sizes::WORKERS;
 
 // Which worker runs which model: the set, the pieces of each model, and the load of each worker.
 // Workers 1 to `alone` are groups of one; the others stand in groups of the set's group size.
@@ -9,8 +11,8 @@ use set::sets::Set;
 pub struct Plan {
     pub set: Set,
     pub alone: u32,
-    pub pieces: [Pieces; 64],
-    pub loads: [u32; 32],
+    pub pieces: [Pieces; MODELS],
+    pub loads: [u32; WORKERS],
     ghost loaded: { Loaded set pieces loads },
     ghost shared: { Shared set pieces },
     ghost grouped: { Grouped set pieces alone },

@@ -6,6 +6,7 @@ ghost use Rattle.set.specs.Limits.{about-model};
 ghost use Rattle.set.specs.Models.{slots-of};
 ghost use Rattle.set.specs.Sets.{about, MadeOf};
 use crate::sets::Set;
+use crate::sizes::MODELS;
 use crate::sizes::Sizes;
 use crate::sizes::checks::outside;
 use refusal::Fault;
@@ -65,11 +66,11 @@ fn check_model(grain: u32, model: u64, cost: u32, period: u32) -> Result<(), Ref
 }
 
 // The numbers in the first slots, and 0 behind them.
-fn slots(numbers: &[u32]) -> [u32; 64]
+fn slots(numbers: &[u32]) -> [u32; MODELS]
     requires { ⌜ length (now numbers) ≤ 64 ⌝ }
     ensures { λ r. ⌜ r ≡ slots-of (now (numbers .entry)) ⌝ }
 {
-    let mut slots = [0; 64];
+    let mut slots = [0; MODELS];
     slots[0..numbers.len()].copy_from_slice(numbers);
     slots
 }

@@ -2,14 +2,15 @@ ghost use mathlib.Core.Path.{_≡_};
 ghost use Prim.Native.Nat.{ℕ, _≤_};
 ghost use lib.ListN.{length};
 ghost use Rattle.set.specs.Models.{Timed, Costed, Clear};
+use crate::sizes::MODELS;
 use crate::sizes::Sizes;
 
 // A set that is within all limits. Slots behind the last model are 0, so equal sets have equal models.
 #[derive(Clone, Copy)]
 pub struct Set {
     pub sizes: Sizes,
-    pub costs: [u32; 64],
-    pub periods: [u32; 64],
+    pub costs: [u32; MODELS],
+    pub periods: [u32; MODELS],
     ghost timed: { Timed (sizes .models) (sizes .grain) periods },
     ghost costed: { Costed (sizes .models) costs periods },
     ghost clear_costs: { Clear (sizes .models) costs },

@@ -1,6 +1,13 @@
 ghost use mathlib.Core.Path.{_≡_};
 ghost use Prim.Native.Nat.{ℕ, _≤_};
 
+// The most models and workers that a set has, and the most parts that a tick is cut into.
+pub const MODELS: usize = 64;
+
+pub const WORKERS: usize = 32;
+
+pub const GRAIN: u32 = 100_800;
+
 // How many models, workers, workers to a group and parts to a tick there are.
 #[derive(Clone, Copy)]
 pub struct Sizes {

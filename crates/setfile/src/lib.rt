@@ -17,6 +17,7 @@ use refusal::Layer;
 use refusal::Refusal;
 use set::figures::Figures;
 use set::sets::Set;
+use set::sizes::MODELS;
 use set::sizes::Sizes;
 
 // The set of a file. The file of a set reads as that set, and no other file does.
@@ -105,12 +106,12 @@ fn word(bytes: &[u8], at: usize) -> u32
 }
 
 // So many words from this place on, in the first slots.
-fn words(bytes: &[u8], at: usize, count: usize) -> [u32; 64]
+fn words(bytes: &[u8], at: usize, count: usize) -> [u32; MODELS]
     requires few { ⌜ count ≤ 64 ⌝ }
     requires within { ⌜ at + 4 * count ≤ length (now bytes) ⌝ }
     ensures { λ r. ⌜ take count r ≡ words-at (now (bytes .entry)) at count ⌝ }
 {
-    let mut words = [0; 64];
+    let mut words = [0; MODELS];
     for i in 0..count {
         words[i] = word(bytes, at + 4 * i);
     }

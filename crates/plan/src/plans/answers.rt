@@ -12,6 +12,7 @@ use crate::groups::group_of;
 use crate::groups::workers_of;
 use crate::pieces::Pieces;
 use set::sizes::Sizes;
+use set::sizes::WORKERS;
 
 impl Plan {
     // How many models, workers, workers to a group and parts to a tick there are.
@@ -42,7 +43,7 @@ impl Plan {
     }
 
     // The loads of all workers together; those behind the last worker are 0.
-    pub fn all_loads(&self) -> [u32; 32]
+    pub fn all_loads(&self) -> [u32; WORKERS]
         ensures { λ r. ⌜ r ≡ now (self .entry) .loads ⌝ }
     {
         self.loads

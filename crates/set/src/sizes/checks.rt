@@ -2,7 +2,10 @@ ghost use mathlib.Core.Path.{_≡_};
 ghost use Prim.Native.Nat.{ℕ, _≤_};
 ghost use Rattle.refusal.specs.Refusals.{Answers, told};
 ghost use Rattle.set.specs.Limits.{about-sizes, bad-size};
+use super::GRAIN;
+use super::MODELS;
 use super::Sizes;
+use super::WORKERS;
 use refusal::Fault;
 use refusal::Layer;
 use refusal::Refusal;
@@ -12,16 +15,16 @@ impl Sizes {
     pub fn new(models: u64, workers: u32, group_size: u32, grain: u32) -> Result<Sizes, Refusal>
         ensures { λ r. ⌜ Answers (about-sizes models workers «group_size» grain) r (λ s. (s .models ≡ models) × (s .workers ≡ workers) × (s .«group_size» ≡ «group_size») × (s .grain ≡ grain)) ⌝ }
     {
-        if models < 1 || models > 64 {
+        if models < 1 || models > MODELS as u64 {
             return Err(outside(1));
         }
-        if workers < 1 || workers > 32 {
+        if workers < 1 || workers > WORKERS as u32 {
             return Err(outside(2));
         }
         if group_size < 1 || group_size > workers {
             return Err(outside(3));
         }
-        if grain < 1 || grain > 100800 {
+        if grain < 1 || grain > GRAIN {
             return Err(outside(4));
         }
         Ok(Sizes {
