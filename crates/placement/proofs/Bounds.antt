@@ -1,24 +1,22 @@
 -- No set that weighs little enough is refused.
-use mathlib.Core.Path.{_≡_, refl, sym, ap, _∙_}
-use mathlib.Core.Bool.{Bool, true, false, cond, not, _&&_, _||_}
-use mathlib.Core.Logic.{_⊎_, inl, inr, ⊎-elim}
+use mathlib.Core.Path.{_≡_, refl, ap, _∙_}
+use mathlib.Core.Bool.{true, false, cond, not, _||_}
+use mathlib.Core.Logic.{_⊎_, ⊎-elim}
 use Prim.Native.Nat.{ℕ, zero, suc, _+_, _-_, _*_, _%_, _<_, _≤_}
 use native.Mathlib.Nat.{mul-le-mul-right, mul-le-mul-left, mod-eq-of-lt, add-mul-mod-self-right, mod-self, add-zero, le-of-mul-le-mul-left}
 use native.Mathlib.Omega.{arith}
-use lib.Dec.{eqb, leb, ltb}
-use Rattle.std.specs.declared.option.Option.{Option}
-use Rattle.std.specs.declared.option.Option.the-variants.{None, Some}
-use Rattle.std.proofs.shelf.Tests.{cases-eq, cases-lt, cases-bool, cond-true, cond-false, leb-true, ltb-true, ltb-false, lt-ltb, eqb-true, eqb-false, eq-eqb, and-parts, and-cases, and-from, and-left, le-ltb, or-parts, not-false, leb-false}
+use lib.Dec.{eqb, ltb}
+use Rattle.std.specs.declared.option.Option.the-variants.{None}
+use Rattle.std.proofs.shelf.Tests.{cases-eq, cases-lt, cases-bool, cond-true, cond-false, ltb-true, ltb-false, eqb-true, eqb-false, eq-eqb, and-parts, and-cases, and-left, le-ltb, or-parts, not-false, leb-false}
 use Rattle.std.proofs.shelf.Ways.{tells}
 use Rattle.refusal.specs.Refusals.{first-below}
 use Rattle.refusal.proofs.Firsts.{both-none}
 use Rattle.set.specs.declared.sets.Set.{Set}
 use Rattle.set.specs.Sets.{models-of, grain-of, weight-of}
 use Rattle.plan.specs.declared.pieces.Pieces.{Pieces}
-use Rattle.plan.specs.declared.pieces.Pieces.the-variants.{Whole, Divided}
 use Rattle.placement.specs.declared.stands.Stand.{Stand}
 use Rattle.placement.specs.Rules.{fits, ends, heavy, heavies, alone-of, group-size-of, workers-of, stand, placed, room-for-light, about-light, about-placing, total-weight}
-use Rattle.placement.proofs.Walks.{Seat, whole, fresh, split, Step, heavy-step, light-step, step, walked, heavies-rise}
+use Rattle.placement.proofs.Walks.{Seat, whole, fresh, split, Step, heavy-step, light-step, step, walked}
 use Rattle.placement.specs.Placing.{Modest}
 use Rattle.placement.proofs.Keeps.{going, stand-within, enough}
 

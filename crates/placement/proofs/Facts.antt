@@ -9,10 +9,10 @@ use Rattle.std.specs.declared.option.Option.the-variants.{None}
 use Rattle.refusal.specs.Refusals.{first-below}
 use Rattle.refusal.proofs.Firsts.{none-upto}
 use Rattle.set.specs.declared.sets.Set.{Set}
-use Rattle.set.specs.Sets.{models-of, grain-of, weight-of}
+use Rattle.set.specs.Sets.{models-of, grain-of}
 use Rattle.plan.specs.declared.pieces.Pieces.{Pieces}
 use Rattle.plan.specs.declared.pieces.Pieces.the-variants.{Whole, Divided}
-use Rattle.plan.specs.Shares.{worker-of, last-of, first-of, second-of, pieces-at, carried}
+use Rattle.plan.specs.Shares.{worker-of, last-of, second-of, pieces-at, carried}
 use Rattle.plan.specs.Facts.{Loaded, Shared, Grouped, OneFirst, OneSecond, Lasting}
 use Rattle.placement.specs.Rules.{alone-of, placed, room-for-light, about-light}
 use Rattle.placement.specs.Placing.{Seated}

@@ -1,15 +1,14 @@
 -- The four facts of a plan, from the rules.
-use mathlib.Core.Path.{_≡_, refl, sym, ap, _∙_}
-use mathlib.Core.Bool.{Bool, true, false, cond, not, _&&_, _||_}
-use mathlib.Core.Logic.{_⊎_, inl, inr, ⊎-elim}
-use Prim.Native.Nat.{ℕ, zero, suc, _+_, _-_, _*_, _%_, _<_, _≤_}
+use mathlib.Core.Path.{_≡_, refl, ap}
+use mathlib.Core.Bool.{true, false, not}
+use mathlib.Core.Logic.{_⊎_, ⊎-elim}
+use Prim.Native.Nat.{ℕ, zero, suc, _+_, _-_, _%_, _<_, _≤_}
 use native.Mathlib.Nat.{add-zero}
 use native.Mathlib.Omega.{arith}
-use lib.Dec.{eqb, leb, ltb}
 use Rattle.std.specs.declared.option.Option.the-variants.{None}
-use Rattle.std.proofs.shelf.Tests.{cases-eq, cases-order, cond-false, leb-true, eqb-true, eqb-false, ltb-true, lt-leb, le-leb, eq-eqb, or-cases, and-parts, not-true, both-ways}
+use Rattle.std.proofs.shelf.Tests.{cases-eq, cases-order, cond-false, leb-true, eqb-true, eqb-false, ltb-true, or-cases, and-parts, not-true, both-ways}
 use Rattle.refusal.specs.Refusals.{first-below}
-use Rattle.refusal.proofs.Firsts.{both-none, passed, none-below}
+use Rattle.refusal.proofs.Firsts.{both-none, passed}
 use Rattle.set.specs.declared.sets.Set.{Set}
 use Rattle.set.specs.Sets.{models-of, grain-of, weight-of}
 use Rattle.set.proofs.Weights.{weighs}
@@ -19,7 +18,7 @@ use Rattle.plan.specs.Shares.{worker-of, last-of, first-of, second-of}
 use Rattle.plan.specs.Groups.{group-of}
 use Rattle.plan.proofs.Spans.{group-next}
 use Rattle.placement.specs.declared.stands.Stand.{Stand}
-use Rattle.placement.specs.Rules.{fits, ends, heavy, heavies, alone-of, group-size-of, workers-of, stand, placed, room-for-light, about-light, about-placing}
+use Rattle.placement.specs.Rules.{fits, ends, heavy, heavies, alone-of, group-size-of, workers-of, stand, placed, room-for-light, about-light}
 use Rattle.placement.proofs.Walks.{Seat, whole, fresh, split, Step, heavy-step, light-step, step, walked, heavies-rise}
 
 module _ (set : Set) where

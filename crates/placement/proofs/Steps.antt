@@ -1,6 +1,6 @@
 -- The steps of the code, in the words of the rules.
 use mathlib.Core.Path.{_≡_, refl, sym, ap, _∙_}
-use mathlib.Core.Bool.{Bool, true, false, cond, not, _||_}
+use mathlib.Core.Bool.{Bool, true, false, not, _||_}
 use mathlib.Core.List.{List}
 use mathlib.Core.Logic.{⊎-elim}
 use Prim.Native.Nat.{ℕ, suc, _+_, _<_, _≤_}
@@ -15,7 +15,7 @@ use Rattle.std.proofs.shelf.Tests.{cond-true, cond-false, cases-eq, or-left}
 use Rattle.set.specs.declared.sets.Set.{Set}
 use Rattle.set.specs.Sets.{models-of, grain-of, weight-of}
 use Rattle.plan.specs.declared.pieces.Pieces.{Pieces}
-use Rattle.plan.specs.declared.pieces.Pieces.the-variants.{Whole, Divided}
+use Rattle.plan.specs.declared.pieces.Pieces.the-variants.{Whole}
 use Rattle.placement.specs.declared.stands.Stand.{Stand}
 use Rattle.plan.specs.Shares.{nowhere}
 use Rattle.refusal.specs.Refusals.{check, first-below}

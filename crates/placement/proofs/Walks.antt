@@ -1,13 +1,12 @@
 -- What holds of the walk that placement takes over the workers.
-use mathlib.Core.Path.{_≡_, refl, sym, ap, _∙_}
-use mathlib.Core.Bool.{Bool, true, false, cond, not, _&&_, _||_}
+use mathlib.Core.Path.{_≡_, refl, ap, _∙_}
+use mathlib.Core.Bool.{Bool, true, false, _||_}
 use mathlib.Core.Logic.{_⊎_, inl, inr, ⊎-elim}
-use Prim.Native.Nat.{ℕ, zero, suc, _+_, _-_, _*_, _%_, _<_, _≤_}
+use Prim.Native.Nat.{ℕ, zero, suc, _+_, _-_, _<_, _≤_}
 use native.Mathlib.Nat.{add-zero}
 use native.Mathlib.Omega.{arith}
-use lib.Dec.{eqb, leb, ltb}
-use Rattle.std.proofs.shelf.Tests.{cases-bool, cond-true, cond-false, leb-true, leb-false, eqb-true, eqb-false, eq-eqb, ne-eqb, cases-eq, cases-order, or-cases, or-parts}
-use Rattle.std.proofs.shelf.Ways.{tells}
+use lib.Dec.{eqb}
+use Rattle.std.proofs.shelf.Tests.{cases-bool, cond-true, cond-false, leb-true, leb-false, eqb-true, eqb-false, eq-eqb, ne-eqb, cases-eq, or-cases, or-parts}
 use Rattle.set.specs.declared.sets.Set.{Set}
 use Rattle.set.specs.Sets.{models-of, grain-of, weight-of}
 use Rattle.plan.specs.declared.pieces.Pieces.{Pieces}
@@ -15,7 +14,7 @@ use Rattle.plan.specs.declared.pieces.Pieces.the-variants.{Whole, Divided}
 use Rattle.plan.specs.Shares.{on-worker, carried}
 use Rattle.set.proofs.Weights.{weighs}
 use Rattle.placement.specs.declared.stands.Stand.{Stand}
-use Rattle.placement.specs.Rules.{fits, ends, seated, moved, heavy, heavies, alone-of, group-size-of, workers-of, stand, placed}
+use Rattle.placement.specs.Rules.{fits, ends, seated, moved, heavy, heavies, alone-of, group-size-of, stand, placed}
 use Rattle.placement.proofs.Carries.{whole-here, whole-else, split-first, split-second, split-else}
 
 module _ (alone k grain : ℕ) (s : Stand) (w : ℕ) where

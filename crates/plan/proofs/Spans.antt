@@ -1,6 +1,6 @@
 -- The groups of workers, by division.
-use mathlib.Core.Path.{_≡_, sym, ap, _∙_}
-use mathlib.Core.Logic.{_⊎_, inl, inr, ⊎-elim}
+use mathlib.Core.Path.{_≡_, ap}
+use mathlib.Core.Logic.{_⊎_, ⊎-elim}
 use Prim.Native.Nat.{ℕ, min, _+_, _-_, _*_, _/_, _%_, _<_, _≤_}
 use native.Mathlib.Nat.{add-mul, one-mul, div-eq-of-lt-le, div-mul-le-self, lt-div-mul-add, mul-le-mul-right, le-div-iff-mul-le, div-add-mod', mod-lt, pos-of-ne-zero}
 use native.Mathlib.Omega.{arith}

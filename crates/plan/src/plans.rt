@@ -1,4 +1,3 @@
-ghost use Prim.Native.Nat.{ℕ, _≤_};
 ghost use Rattle.plan.specs.Facts.{Loaded, Shared, Grouped, OneFirst, OneSecond, Lasting};
 use crate::pieces::Pieces;
 use set::sets::Set;

@@ -1,4 +1,4 @@
--- How a number is spelled from its last digit on. Assumes nothing.
+-- How a number is spelled from its last digit on.
 use mathlib.Core.Path.{_≡_, sym, ap, _∙_}
 use mathlib.Core.List.{List, [], _∷_, _++_}
 use Prim.Native.Nat.{ℕ, _+_, _-_, _/_, _%_, _^_, _≤_, _<_}

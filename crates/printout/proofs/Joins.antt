@@ -1,4 +1,4 @@
--- Texts put together from one for each element. Assumes nothing.
+-- Texts put together from one for each element.
 use mathlib.Core.Path.{_≡_, sym, ap, _∙_}
 use mathlib.Core.List.{List, [], _∷_, _++_}
 use Prim.Native.Nat.{ℕ, zero, suc, _+_, _*_, _≤_, _<_}

@@ -1,4 +1,4 @@
--- How long lines are, for callers that must bring the room. Assumes nothing.
+-- How long lines are, for callers that must bring the room.
 use mathlib.Core.List.{List, [], _∷_, _++_}
 use Prim.Native.Nat.{ℕ, _+_, _*_, _^_, _≤_, _<_}
 use native.Mathlib.Omega.{arith}
@@ -23,8 +23,3 @@ length-line-by c tag numbers h =
 pub length-line-le : (k : ℕ) (tag numbers : List ℕ) → 0 < k → 10 ^ k ≤ 2 ^ 64 → All (λ n. n < 10 ^ k) numbers → length (line-of tag numbers) ≤ length tag + (k + 1) * length numbers + 1
 length-line-le k tag numbers some within h =
     length-line-by (k + 1) tag numbers (all-weaker _ _ (λ n few. length-spaced-le k n some few (omega arith)) numbers h)
-
--- any numbers of 64 bits
-pub length-line-wide : (tag numbers : List ℕ) → All (λ n. n < 2 ^ 64) numbers → length (line-of tag numbers) ≤ length tag + 21 * length numbers + 1
-length-line-wide tag numbers h =
-    length-line-by 21 tag numbers (all-weaker _ _ (λ n small. length-spaced-le 20 n (omega arith) (omega arith) small) numbers h)

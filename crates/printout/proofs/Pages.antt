@@ -1,4 +1,4 @@
--- One text after another on a page. Assumes nothing.
+-- One text after another on a page.
 use mathlib.Core.Path.{_≡_, sym, ap, subst, _∙_}
 use mathlib.Core.List.{List, [], _++_}
 use Prim.Native.Nat.{ℕ, _+_, _-_, _≤_, _<_}
@@ -8,8 +8,14 @@ use lib.ListN.{length, getD, take, drop}
 use Rattle.std.specs.Joined.{joined}
 use Rattle.std.proofs.shelf.Lists.{append-assoc, length-append, length-take-le, length-drop, take-at, take-append-drop, drop-at, drop-drop}
 use Rattle.printout.specs.declared.page.Page.{Page}
-use Rattle.printout.specs.Pages.{memory, Appends, Holds}
+use Rattle.printout.specs.Pages.{memory, Appends}
 use Rattle.printout.proofs.Joins.{joined-next, joined-room}
+
+-- what is written is just the text; behind it the memory is as it was when it held old
+pub record Holds (text old : List ℕ) (p : Page) : Type 0 where
+  pub fits : length text ≤ length old
+  pub all : p .len ≡ length text
+  pub front : memory p ≡ text ++ drop (length text) old
 
 -- a text over the memory behind a front of n bytes
 over-behind : (front rest text : List ℕ) (n : ℕ) → length front ≡ n → take n (front ++ rest) ++ (text ++ drop (n + length text) (front ++ rest)) ≡ (front ++ text) ++ drop (length text) rest
@@ -90,11 +96,6 @@ holds-append t s old p q g h =
           ∙ over-behind t (drop (length t) old) s (p .len) (sym first)
           ∙ (λ k. (t ++ s) ++ (drop-drop (length s) (length t) old ∙ ap (λ n. drop n old) (sym both)) k);
     }
-
--- a loop that appends a text for each element
-pub holds-more : {X : Type 0} (f : X → List ℕ) (head : List ℕ) (xs : List X) (i : ℕ) (d : X) (old : List ℕ) (p q : Page) → i < length xs → Holds (head ++ joined f (take i xs)) old p → Appends p (f (getD xs i d)) q → Holds (head ++ joined f (take (i + 1) xs)) old q
-holds-more f head xs i d old p q h g a =
-    subst (λ (text : List ℕ). Holds text old q) (joined-next f head xs i d h) (holds-append _ (f (getD xs i d)) old p q g a)
 
 -- a text that the memory has room for, behind what is written, fits the page
 pub holds-fits : (t s old : List ℕ) (p : Page) → Holds t old p → length t + length s ≤ length old → p .len + length s ≤ length (memory p)

@@ -1,6 +1,6 @@
 -- Every text fits the least memory.
-use mathlib.Core.Path.{_≡_, ap, _∙_}
-use mathlib.Core.Bool.{Bool, true, false, cond}
+use mathlib.Core.Path.{_≡_, ap}
+use mathlib.Core.Bool.{Bool, true, false}
 use mathlib.Core.List.{List, [], _∷_, _++_}
 use mathlib.Core.Logic.{⊎-elim}
 use Prim.Native.Nat.{ℕ, zero, suc, _+_, _-_, _*_, _/_, _%_, _^_, _≤_, _<_}
@@ -14,7 +14,6 @@ use Rattle.std.specs.Joined.{joined}
 use Rattle.std.specs.Written.{decimal, digits, spelled, glyph}
 use Rattle.std.specs.declared.result.Result.{Result}
 use Rattle.std.specs.declared.result.Result.the-variants.{Ok, Err}
-use Rattle.std.specs.shelf.Lists.{All}
 use Rattle.std.proofs.shelf.Counted.{length-counting, getD-counting}
 use Rattle.std.proofs.shelf.Elements.{all-from-getD}
 use Rattle.std.proofs.shelf.Lists.{length-append}
@@ -23,12 +22,11 @@ use Rattle.refusal.specs.declared.Refusal.{Refusal}
 use Rattle.refusal.specs.declared.Layer.{Layer}
 use Rattle.refusal.specs.declared.Layer.the-variants.{File, Set, Placement, Running}
 use Rattle.refusal.specs.Refusals.{number-of, word-of}
-use Rattle.set.specs.Sets.{weight-of}
 use Rattle.set.proofs.Weights.{weighs}
 use Rattle.plan.specs.declared.pieces.Pieces.{Pieces}
 use Rattle.plan.specs.declared.pieces.Pieces.the-variants.{Whole, Divided}
 use Rattle.plan.specs.declared.plans.Plan.{Plan}
-use Rattle.plan.specs.Shares.{worker-of, last-of, first-of, second-of, pieces-at}
+use Rattle.plan.specs.Shares.{last-of, first-of, second-of, pieces-at}
 use Rattle.printout.specs.Lines.{line-of}
 use Rattle.printout.specs.Texts.{refusal-text, pieces-text, sizes-text, load-text, loads-text, model-text, models-text, plan-text, text-of}
 use Rattle.printout.proofs.Joins.{length-joined-le}

@@ -1,4 +1,4 @@
--- One word of a line after another. Assumes nothing.
+-- One word of a line after another.
 use mathlib.Core.Path.{subst}
 use mathlib.Core.List.{List, [], _∷_, _++_}
 use Prim.Native.Nat.{ℕ, _+_, _≤_, _<_}

@@ -1,4 +1,4 @@
--- What a line says. Assumes nothing: these are definitions.
+-- What a line says.
 --     spaced n      a space and n in decimal digits
 --     line-of tag numbers      the tag, a word for each number, and the end of the line
 use mathlib.Core.List.{List, [], _∷_, _++_}

@@ -1,7 +1,6 @@
--- What a clause says of a page. Assumes nothing: these are definitions.
+-- What a clause says of a page.
 --     memory p      all of the lent bytes, written or not
 --     Appends p text q      the text had room behind what p has written; q has it there, and every other byte as p has it
---     Holds text old p      what is written is just the text; behind it the memory is as it was when it held old
 use mathlib.Core.Path.{_≡_}
 use mathlib.Core.List.{List, _++_}
 use Prim.Native.Nat.{ℕ, _+_, _≤_}
@@ -15,8 +14,3 @@ pub record Appends (p : Page) (text : List ℕ) (q : Page) : Type 0 where
   pub fits : p .len + length text ≤ length (memory p)
   pub longer : q .len ≡ p .len + length text
   pub after : memory q ≡ take (p .len) (memory p) ++ (text ++ drop (p .len + length text) (memory p))
-
-pub record Holds (text old : List ℕ) (p : Page) : Type 0 where
-  pub fits : length text ≤ length old
-  pub all : p .len ≡ length text
-  pub front : memory p ≡ text ++ drop (length text) old

@@ -1,7 +1,6 @@
 // The lines of the text, one function for each part of it.
 ghost use mathlib.Core.Path.{_≡_};
-ghost use mathlib.Core.List.{_++_};
-ghost use Prim.Native.Nat.{ℕ, _+_, _≤_};
+ghost use Prim.Native.Nat.{_+_, _≤_};
 ghost use denote.Ref.{name};
 ghost use lib.ListN.{length};
 ghost use Rattle.printout.specs.Pages.{memory, Appends};

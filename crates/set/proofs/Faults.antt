@@ -1,15 +1,14 @@
 -- What the checks of a set leave to be true.
-use mathlib.Core.Path.{_≡_, refl, sym, ap, _∙_}
-use mathlib.Core.Logic.{_⊎_, inl, inr, ⊎-elim}
-use mathlib.Core.List.{List, _++_}
+use mathlib.Core.Path.{_≡_, refl, sym, _∙_}
+use mathlib.Core.Logic.{_⊎_, ⊎-elim}
+use mathlib.Core.List.{List}
 use Prim.Native.Nat.{ℕ, _+_, _-_, _%_, _<_, _≤_}
 use native.Mathlib.Omega.{arith}
 use lib.ListN.{length, getD, replicate}
-use Rattle.std.specs.declared.option.Option.the-variants.{Some, None}
+use Rattle.std.specs.declared.option.Option.the-variants.{None}
 use Rattle.std.proofs.shelf.Tests.{eq-eqb, cases-lt}
 use Rattle.std.proofs.shelf.Ways.{tells}
 use Rattle.std.proofs.shelf.Lists.{getD-append-left, getD-append-right, getD-past, length-append, length-replicate}
-use Rattle.refusal.specs.Refusals.{first-below}
 use Rattle.refusal.proofs.Firsts.{none-below}
 use Rattle.set.proofs.Blanks.{getD-blank}
 use Rattle.set.specs.Limits.{about-sizes, about-model, about-models, about-figures}

@@ -1,6 +1,6 @@
 -- The laws of a weight.
 use mathlib.Core.Path.{_≡_, refl, ap, _∙_}
-use Prim.Native.Nat.{ℕ, zero, suc, _+_, _*_, _/_, _%_, _≤_, _<_}
+use Prim.Native.Nat.{ℕ, zero, suc, _*_, _/_, _%_, _≤_, _<_}
 use native.Mathlib.Nat.{mul-assoc, div-add-mod', mul-le-mul-right, div-mul-le-self, mul-comm, zero-mul, one-le-mul}
 use native.Mathlib.Omega.{arith}
 use Rattle.set.specs.declared.sets.Set.{Set}

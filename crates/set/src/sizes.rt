@@ -1,5 +1,4 @@
-ghost use mathlib.Core.Path.{_≡_};
-ghost use Prim.Native.Nat.{ℕ, _≤_};
+ghost use Prim.Native.Nat.{_≤_};
 
 // The most models and workers that a set has, and the most parts that a tick is cut into.
 pub const MODELS: usize = 64;

@@ -1,13 +1,11 @@
 use mathlib.Core.Path.{_≡_, sym, ap, _∙_}
 use mathlib.Core.List.{[], _++_}
-use Prim.Native.Nat.{_≤_}
 use native.Mathlib.Omega.{arith}
 use borrow.Author.Needs.{needs}
 use lib.ListN.{length, drop}
 use Rattle.std.proofs.shelf.Tests.{cond-true, le-leb}
-use Rattle.printout.specs.Pages.{memory, Holds}
 use Rattle.printout.specs.Texts.{text-of}
-use Rattle.printout.proofs.Pages.{holds-none, holds-append, holds-fits}
+use Rattle.printout.proofs.Pages.{Holds, holds-none, holds-append, holds-fits}
 use Rattle.printout.proofs.Sizes.{text-most}
 use Rattle.printout.proofs.print_file.Needs as need
 

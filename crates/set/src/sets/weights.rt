@@ -1,7 +1,7 @@
 ghost use mathlib.Core.Path.{_≡_};
-ghost use Prim.Native.Nat.{ℕ, _-_, _*_, _≤_, _<_};
+ghost use Prim.Native.Nat.{_-_, _*_, _<_};
 ghost use Rattle.std.specs.Options.{Cases};
-ghost use Rattle.set.specs.Sets.{models-of, grain-of, cost-of, period-of, weight-of, parts-of, Weighs, Model};
+ghost use Rattle.set.specs.Sets.{parts-of, Weighs, Model};
 use super::Set;
 
 impl Set {

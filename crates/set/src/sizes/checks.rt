@@ -1,5 +1,4 @@
 ghost use mathlib.Core.Path.{_≡_};
-ghost use Prim.Native.Nat.{ℕ, _≤_};
 ghost use Rattle.refusal.specs.Refusals.{Answers, told};
 ghost use Rattle.set.specs.Limits.{about-sizes, bad-size};
 use super::GRAIN;

@@ -1,7 +1,4 @@
-use mathlib.Core.Path.{_≡_}
-use lib.ListN.{length}
 use native.Mathlib.Omega.{arith}
-use Rattle.setfile.specs.Reading.{size-for}
 use Rattle.setfile.proofs.Files.{written-back}
 use Rattle.setfile.proofs.Makings.{level-from, room-enough, writes-file}
 use Rattle.setfile.proofs.write.Needs as need

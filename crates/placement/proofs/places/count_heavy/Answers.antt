@@ -1,5 +1,3 @@
-use mathlib.Core.Path.{_≡_, sym, ap, _∙_}
-use Prim.Native.Nat.{_+_}
 use native.Mathlib.Omega.{arith}
 use Rattle.placement.proofs.Steps.{heavies-more, heavies-same}
 use Rattle.placement.proofs.places.count_heavy.Needs as need

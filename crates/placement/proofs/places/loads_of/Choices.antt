@@ -1,6 +1,6 @@
 use mathlib.Core.Path.{_≡_}
 use Prim.Native.Nat.{ℕ, _+_, _<_}
-use lib.ListN.{getD, length}
+use lib.ListN.{getD}
 use Rattle.plan.specs.Shares.{pieces-at, carried}
 use Rattle.placement.proofs.places.loads_of.Given as given
 

@@ -1,4 +1,3 @@
-use mathlib.Core.Path.{ap, _∙_}
 use mathlib.Core.List.{List, [], _∷_}
 use Prim.Native.Nat.{ℕ, _+_, _≤_}
 use borrow.Author.Needs.{needs}
@@ -8,7 +7,7 @@ use Rattle.plan.specs.declared.pieces.Pieces.the-variants.{Divided}
 use Rattle.printout.specs.Lines.{line-of}
 use Rattle.printout.specs.Pages.{memory}
 use Rattle.printout.specs.Texts.{pieces-text}
-use Rattle.printout.proofs.Pages.{fits-first, fits-rest, appends-same, appends-append}
+use Rattle.printout.proofs.Pages.{fits-first, fits-rest, appends-append}
 use Rattle.printout.proofs.lines.pieces_lines.Needs as need
 
 abbrev piece : ℕ → ℕ → ℕ → List ℕ
