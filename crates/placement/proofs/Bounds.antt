@@ -16,6 +16,7 @@ use Rattle.set.specs.Sets.{models-of, grain-of, weight-of}
 use Rattle.plan.specs.declared.pieces.Pieces.{Pieces}
 use Rattle.placement.specs.declared.stands.Stand.{Stand}
 use Rattle.placement.specs.Rules.{fits, ends, heavy, heavies, alone-of, group-size-of, workers-of, stand, placed, room-for-light, about-light, about-placing, total-weight}
+use Rattle.placement.proofs.Rises.{rises}
 use Rattle.placement.proofs.Walks.{Seat, whole, fresh, split, Step, heavy-step, light-step, step, walked}
 use Rattle.placement.specs.Placing.{Modest}
 use Rattle.placement.proofs.Keeps.{going, stand-within, enough}
@@ -137,12 +138,7 @@ module _ (set : Set) where
 
   light-rises : (n i : ℕ) → i ≤ n → light-weight i ≤ light-weight n
   unfolding light-weight
-  light-rises zero i h = let e : i ≡ 0 = omega arith in rw e (omega arith)
-  light-rises (suc n) i h =
-      ⊎-elim
-      (λ (e : i ≡ suc n). rw e (omega arith))
-      (λ (ne : i ≡ suc n → ⊥). let r = light-rises n i (omega arith) in omega arith)
-      (cases-eq i (suc n))
+  light-rises = rises light-weight (λ n. omega arith)
 
   -- the heavy models weigh more than k / (k + 1) of their workers
   heavy-heavy : (n : ℕ) → heavies set n * (group-size-of set * grain-of set + 1) ≤ heavy-weight n * (group-size-of set + 1)

@@ -1,13 +1,12 @@
 -- What pieces put on one worker.
 use mathlib.Core.Path.{_≡_, refl, ap}
-use mathlib.Core.Logic.{⊎-elim}
 use Prim.Native.Nat.{ℕ, zero, suc, _+_, _<_, _≤_}
 use native.Mathlib.Numerals.{add-one}
 use native.Mathlib.Omega.{arith}
-use Rattle.std.proofs.shelf.Tests.{cases-eq}
 use Rattle.std.proofs.shelf.Ways.{tells}
 use Rattle.plan.specs.declared.pieces.Pieces.{Pieces}
 use Rattle.plan.specs.declared.pieces.Pieces.the-variants.{Whole, Divided}
+use Rattle.placement.proofs.Rises.{rises}
 use Rattle.plan.specs.Shares.{on-worker, carried}
 
 pub whole-here : (q w : ℕ) → on-worker q (Whole q w) ≡ w
@@ -28,12 +27,7 @@ split-else p q a b h k = grind (arith, tells)
 module _ (pieces : ℕ → Pieces) (p : ℕ) where
   -- more models carry more
   pub carried-rises : (n i : ℕ) → i ≤ n → carried pieces p i ≤ carried pieces p n
-  carried-rises zero i h = let e : i ≡ 0 = omega arith in rw e (omega arith)
-  carried-rises (suc n) i h =
-      ⊎-elim
-      (λ (e : i ≡ suc n). rw e (omega arith))
-      (λ (ne : i ≡ suc n → ⊥). let r = carried-rises n i (omega arith) in omega arith)
-      (cases-eq i (suc n))
+  carried-rises = rises (carried pieces p) (λ n. omega arith)
 
   pub carried-more : (i : ℕ) → carried pieces p (i + 1) ≡ carried pieces p i + on-worker p (pieces i)
   carried-more i = rw (add-one i) refl

@@ -1,7 +1,7 @@
 -- The four facts of a plan, from the rules.
 use mathlib.Core.Path.{_≡_, refl, ap}
 use mathlib.Core.Bool.{true, false, not}
-use mathlib.Core.Logic.{_⊎_, ⊎-elim}
+use mathlib.Core.Logic.{_⊎_, inl, inr, ⊎-elim}
 use Prim.Native.Nat.{ℕ, zero, suc, _+_, _-_, _%_, _<_, _≤_}
 use native.Mathlib.Nat.{add-zero}
 use native.Mathlib.Omega.{arith}
@@ -19,23 +19,20 @@ use Rattle.plan.specs.Groups.{group-of}
 use Rattle.plan.proofs.Spans.{group-next}
 use Rattle.placement.specs.declared.stands.Stand.{Stand}
 use Rattle.placement.specs.Rules.{fits, ends, heavy, heavies, alone-of, group-size-of, workers-of, stand, placed, room-for-light, about-light}
+use Rattle.placement.proofs.Rises.{rises}
 use Rattle.placement.proofs.Walks.{Seat, whole, fresh, split, Step, heavy-step, light-step, step, walked, heavies-rise}
 
 module _ (set : Set) where
-  pub heavies-le : (n : ℕ) → heavies set n ≤ n
-  heavies-le zero = omega arith
-  heavies-le (suc n) = go (step set n) (heavies-le n)
-    where
-      go : Step set n → heavies set n ≤ n → heavies set (suc n) ≤ suc n
-      go (heavy-step is more x t) h = omega arith
-      go (light-step no′ same seat) h = omega arith
-
   heavies-more : (n : ℕ) → heavies set (suc n) ≤ heavies set n + 1
   heavies-more n = go (step set n)
     where
       go : Step set n → heavies set (suc n) ≤ heavies set n + 1
       go (heavy-step is more x t) = omega arith
       go (light-step no′ same seat) = omega arith
+
+  pub heavies-le : (n : ℕ) → heavies set n ≤ n
+  heavies-le zero = omega arith
+  heavies-le (suc n) = omega (arith, heavies-le n, heavies-more n)
 
   heavies-less : (n i : ℕ) → i < n → heavy set i ≡ false → heavies set n < n
   heavies-less zero i h e = absurd (omega arith)
@@ -58,39 +55,38 @@ module _ (set : Set) where
       (or-cases _ _ rest))
       (or-cases _ _ (passed _ _ _ none .0))
 
+  -- the walk stays on its worker, or goes to the next since a light model does not fit
+  abbrev Goes : ℕ → Stand → Type 0
+  Goes i t = (t .worker ≡ stand set i .worker) ⊎ ((heavy set i ≡ false) × (grain-of set < stand set i .load + weight-of set i) × (t .worker ≡ stand set i .worker + 1))
+
+  goes : (i : ℕ) → Goes i (stand set (suc i))
+  goes i = go (step set i)
+    where
+      by-seat : heavy set i ≡ false → (x : Pieces) (t : Stand) → Seat (alone-of set) (group-size-of set) (grain-of set) (stand set i) (weight-of set i) x t → Goes i t
+      by-seat light x t (whole fit ex et) = inl (ap (λ s. s .worker) et)
+      by-seat light x t (fresh over why ex et) = inr (light, over, ap (λ s. s .worker) et)
+      by-seat light x t (split over more some ex et) = inr (light, over, ap (λ s. s .worker) et)
+
+      go : Step set i → Goes i (stand set (suc i))
+      go (heavy-step is more x t) = inl (ap (λ s. s .worker) t)
+      go (light-step light same seat) = by-seat light (placed set i) (stand set (suc i)) seat
+
   -- the walk stays on the workers as long as no model is refused
   pub stand-within : (i : ℕ) → alone-of set < workers-of set → first-below (about-light set) i ≡ None → stand set i .worker ≤ workers-of set
   stand-within zero room none = omega arith
   stand-within (suc i) room none =
       let parts = both-none (first-below (about-light set) i) (about-light set i) none in
-      next (step set i) (stand-within i room (parts .0)) (parts .1)
-    where
-      by-seat : heavy set i ≡ false → about-light set i ≡ None → stand set i .worker ≤ workers-of set → (x : Pieces) (t : Stand) → Seat (alone-of set) (group-size-of set) (grain-of set) (stand set i) (weight-of set i) x t → t .worker ≤ workers-of set
-      by-seat light fine before x t (whole fit ex et) = omega (arith, ap (λ s. s .worker) et)
-      by-seat light fine before x t (fresh over why ex et) = let ne = going i light fine over in omega (arith, ap (λ s. s .worker) et, ne)
-      by-seat light fine before x t (split over more some ex et) = let ne = going i light fine over in omega (arith, ap (λ s. s .worker) et, ne)
-
-      next : Step set i → stand set i .worker ≤ workers-of set → about-light set i ≡ None → stand set (suc i) .worker ≤ workers-of set
-      next (heavy-step is more x t) before fine = rw t before
-      next (light-step no′ same seat) before fine = by-seat no′ fine before (placed set i) (stand set (suc i)) seat
+      let before = stand-within i room (parts .0) in
+      ⊎-elim
+      (λ (stays : stand set (suc i) .worker ≡ stand set i .worker). omega arith)
+      (λ goes-on. let ne = going i (goes-on .0) (parts .1) (goes-on .1) in omega (arith, goes-on .2, ne))
+      (goes i)
 
   -- the walk never goes back
   stand-rises : (j i : ℕ) → i ≤ j → stand set i .worker ≤ stand set j .worker
-  stand-rises zero i h = let e : i ≡ 0 = omega arith in rw e (omega arith)
-  stand-rises (suc j) i h =
-      ⊎-elim
-      (λ (e : i ≡ suc j). rw e (omega arith))
-      (λ (ne : i ≡ suc j → ⊥). let r = stand-rises j i (omega arith) in omega (arith, next (step set j)))
-      (cases-eq i (suc j))
-    where
-      by-seat : (x : Pieces) (t : Stand) → Seat (alone-of set) (group-size-of set) (grain-of set) (stand set j) (weight-of set j) x t → stand set j .worker ≤ t .worker
-      by-seat x t (whole fit ex et) = omega (arith, ap (λ s. s .worker) et)
-      by-seat x t (fresh over why ex et) = omega (arith, ap (λ s. s .worker) et)
-      by-seat x t (split over more some ex et) = omega (arith, ap (λ s. s .worker) et)
-
-      next : Step set j → stand set j .worker ≤ stand set (suc j) .worker
-      next (heavy-step is more x t) = omega (arith, ap (λ s. s .worker) t)
-      next (light-step no′ same seat) = by-seat (placed set j) (stand set (suc j)) seat
+  stand-rises =
+      rises (λ i. stand set i .worker)
+      (λ i. ⊎-elim (λ (stays : stand set (suc i) .worker ≡ stand set i .worker). omega arith) (λ goes-on. omega (arith, goes-on .2)) (goes i))
 
   -- what the facts of a plan say of one model
   pub record Well (i : ℕ) (x : Pieces) : Type 0 where

@@ -1,3 +1,4 @@
+pub mod Rises
 pub mod Carries
 pub mod Walks
 pub mod Keeps

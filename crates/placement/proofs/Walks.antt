@@ -15,6 +15,7 @@ use Rattle.plan.specs.Shares.{on-worker, carried}
 use Rattle.set.proofs.Weights.{weighs}
 use Rattle.placement.specs.declared.stands.Stand.{Stand}
 use Rattle.placement.specs.Rules.{fits, ends, seated, moved, heavy, heavies, alone-of, group-size-of, stand, placed}
+use Rattle.placement.proofs.Rises.{rises}
 use Rattle.placement.proofs.Carries.{whole-here, whole-else, split-first, split-second, split-else}
 
 module _ (alone k grain : ℕ) (s : Stand) (w : ℕ) where
@@ -133,12 +134,7 @@ module _ (alone grain h : ℕ) (s : Stand) (load : ℕ → ℕ) (level : Level a
 
 module _ (set : Set) where
   pub heavies-rise : (n i : ℕ) → i ≤ n → heavies set i ≤ heavies set n
-  heavies-rise zero i h = let e : i ≡ 0 = omega arith in rw e (omega arith)
-  heavies-rise (suc n) i h =
-      ⊎-elim
-      (λ (e : i ≡ suc n). rw e (omega arith))
-      (λ (ne : i ≡ suc n → ⊥). let r = heavies-rise n i (omega arith) in omega arith)
-      (cases-eq i (suc n))
+  heavies-rise = rises (heavies set) (λ n. omega arith)
 
   -- one model of the walk
   pub data Step (i : ℕ) : Type 0 where
