@@ -1,6 +1,7 @@
-"""Writes crates/cases/stdin, many set files in hexadecimal, and crates/cases/stdout, what is printed of each.
+"""Writes what the programs are run on in the gate, and what they must print.
 
-Run it at the repository's root. What is expected comes from tools/reference.py, never from the proved program.
+crates/cases has many set files in hexadecimal; crates/print has one that goes on for a megabyte.
+Run it at the repository's root. What is expected comes from tools/reference.py, never from the proved programs.
 """
 import random
 import struct
@@ -68,17 +69,17 @@ def damaged():
     yield words(1, 1, 1, 10, top, top)
 
 
-def drawn(random, count):
+def drawn(source, count):
     """Sets of all sizes, some too heavy; periods are divisors of the grain."""
     for _ in range(count):
-        workers = random.randint(1, random.choice([2, 4, 8, 32]))
-        group_size = random.randint(1, workers)
-        grain = random.choice([1, 6, 12, 60, 360, 5040, 10080, 100800])
+        workers = source.randint(1, source.choice([2, 4, 8, 32]))
+        group_size = source.randint(1, workers)
+        grain = source.choice([1, 6, 12, 60, 360, 5040, 10080, 100800])
         divisors = [t for t in range(1, grain + 1) if grain % t == 0]
-        models = random.randint(1, random.choice([4, 16, 64]))
-        fill = random.choice([0.2, 0.5, 0.8, 1.0])
-        periods = [random.choice(divisors) for _ in range(models)]
-        costs = [max(1, min(t, round(t * fill * random.random()))) for t in periods]
+        models = source.randint(1, source.choice([4, 16, 64]))
+        fill = source.choice([0.2, 0.5, 0.8, 1.0])
+        periods = [source.choice(divisors) for _ in range(models)]
+        costs = [max(1, min(t, round(t * fill * source.random()))) for t in periods]
         yield set_file(workers, group_size, grain, costs, periods)
 
 
@@ -88,6 +89,11 @@ def main():
         stdin.writelines(data.hex() + "\n" for data in files)
     with open("crates/cases/stdout", "w") as stdout:
         stdout.writelines(text_of(data) for data in files)
+    long = (set_file(2, 2, 10, [6, 6, 6]) + b"and so on\n" * 100_000)[:1_000_000]
+    with open("crates/print/stdin", "wb") as stdin:
+        stdin.write(long)
+    with open("crates/print/stdout", "w") as stdout:
+        stdout.write(text_of(long))
 
 
 if __name__ == "__main__":

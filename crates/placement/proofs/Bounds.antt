@@ -12,14 +12,14 @@ use Rattle.std.proofs.shelf.Ways.{tells}
 use Rattle.refusal.specs.Refusals.{first-below}
 use Rattle.refusal.proofs.Firsts.{both-none}
 use Rattle.set.specs.declared.sets.Set.{Set}
-use Rattle.set.specs.Sets.{models-of, grain-of, weight-of}
+use Rattle.set.specs.Sets.{models-of, grain-of, weight-of, group-size-of, workers-of}
 use Rattle.plan.specs.declared.pieces.Pieces.{Pieces}
-use Rattle.placement.specs.declared.stands.Stand.{Stand}
-use Rattle.placement.specs.Rules.{fits, ends, heavy, heavies, alone-of, group-size-of, workers-of, stand, placed, room-for-light, about-light, about-placing, total-weight}
+use Rattle.placement.specs.declared.cursors.Cursor.{Cursor}
+use Rattle.placement.specs.Rules.{fits, ends, heavy, heavies, alone-of, cursor, placed, room-for-light, about-light, about-placing, total-weight}
 use Rattle.placement.proofs.Rises.{rises}
 use Rattle.placement.proofs.Walks.{Seat, whole, fresh, split, Step, heavy-step, light-step, step, walked}
 use Rattle.placement.specs.Placing.{Modest}
-use Rattle.placement.proofs.Keeps.{going, stand-within, enough}
+use Rattle.placement.proofs.Keeps.{going, cursor-within, enough}
 
 -- a model that no longer fits on the last worker of a group leaves that group more than k / (k + 1) full
 closing : (j k grain load w : ℕ) → j + 1 ≡ k → grain < load + w → w * (k + 1) ≤ k * grain → k * grain * k ≤ (k + 1) * (j * grain + load)
@@ -40,14 +40,14 @@ group-turn alone k g j p at inside =
     )
 
 -- a walk over light models: g groups of k workers are closed, and j workers of the next one are full
-record Spread (alone k grain : ℕ) (s : Stand) (weight : ℕ) : Type 0 where
+record Spread (alone k grain : ℕ) (s : Cursor) (weight : ℕ) : Type 0 where
   g : ℕ
   j : ℕ
   at′ : s .worker ≡ alone + 1 + g * k + j
   inside : j < k
   filled : k * grain * (g * k) + (k + 1) * (j * grain + s .load) ≤ (k + 1) * weight
 
-module _ (alone k grain : ℕ) (s : Stand) (weight : ℕ) (spread : Spread alone k grain s weight) (w : ℕ) where
+module _ (alone k grain : ℕ) (s : Cursor) (weight : ℕ) (spread : Spread alone k grain s weight) (w : ℕ) where
   abbrev g′ : ℕ
   g′ = spread .g
 
@@ -79,7 +79,7 @@ module _ (alone k grain : ℕ) (s : Stand) (weight : ℕ) (spread : Spread alone
   }
 
   -- one light model more, where those that close a group are light indeed
-  spread-on : (x : Pieces) (t : Stand) → Seat alone k grain s w x t → (ends alone k (s .worker) ≡ true → grain < s .load + w → w * (k + 1) ≤ k * grain) → Spread alone k grain t (weight + w)
+  spread-on : (x : Pieces) (t : Cursor) → Seat alone k grain s w x t → (ends alone k (s .worker) ≡ true → grain < s .load + w → w * (k + 1) ≤ k * grain) → Spread alone k grain t (weight + w)
   spread-on x t (whole fit ex et) small = rw et spread-whole
   spread-on x t (fresh over why ex et) small = rw et
       (⊎-elim
@@ -163,7 +163,7 @@ module _ (set : Set) where
       omega (arith, cond-false {A = ℕ} (heavy set n) 1 0 light)
 
   -- a model that closes a group weighs at most k / (k + 1) of the grain
-  small : (i : ℕ) → heavy set i ≡ false → alone-of set < stand set i .worker → stand set i .worker < workers-of set → ends (alone-of set) (group-size-of set) (stand set i .worker) ≡ true → weight-of set i * (group-size-of set + 1) ≤ group-size-of set * grain-of set
+  small : (i : ℕ) → heavy set i ≡ false → alone-of set < cursor set i .worker → cursor set i .worker < workers-of set → ends (alone-of set) (group-size-of set) (cursor set i .worker) ≡ true → weight-of set i * (group-size-of set + 1) ≤ group-size-of set * grain-of set
   small i light floor going-on end =
       ⊎-elim
       (λ (narrow : group-size-of set < workers-of set).
@@ -173,12 +173,12 @@ module _ (set : Set) where
       (and-cases _ _ light))
       (λ (wide : workers-of set ≤ group-size-of set).
       let none : alone-of set ≡ 0 = none-heavy wide (models-of set) in
-      let lt : stand set i .worker - alone-of set < group-size-of set = omega arith in
-      absurd (omega (arith, mod-eq-of-lt lt, eqb-true ((stand set i .worker - alone-of set) % group-size-of set) 0 end)))
+      let lt : cursor set i .worker - alone-of set < group-size-of set = omega arith in
+      absurd (omega (arith, mod-eq-of-lt lt, eqb-true ((cursor set i .worker - alone-of set) % group-size-of set) 0 end)))
       (cases-lt (group-size-of set) (workers-of set))
 
   abbrev Spreads : ℕ → Type 0
-  Spreads i = Spread (alone-of set) (group-size-of set) (grain-of set) (stand set i) (light-weight i)
+  Spreads i = Spread (alone-of set) (group-size-of set) (grain-of set) (cursor set i) (light-weight i)
 
   module _ (ok : room-for-light set ≡ true) where
     spreads-on : (i : ℕ) → i < models-of set → first-below (about-light set) i ≡ None → about-light set i ≡ None → Spreads i → Step set i → Spreads (suc i)
@@ -187,9 +187,9 @@ module _ (set : Set) where
         rw (t, cond-true (heavy set i) 0 (weight-of set i) is, add-zero) spread
     spreads-on i h before none spread (light-step light same seat) =
         rw (cond-false (heavy set i) 0 (weight-of set i) light)
-        (spread-on (alone-of set) (group-size-of set) (grain-of set) (stand set i) (light-weight i) spread (weight-of set i) (placed set i) (stand set (suc i)) seat
+        (spread-on (alone-of set) (group-size-of set) (grain-of set) (cursor set i) (light-weight i) spread (weight-of set i) (placed set i) (cursor set (suc i)) seat
         (λ end over.
-        let in-m = stand-within set i (enough set ok .1 i h light) before in
+        let in-m = cursor-within set i (enough set ok .1 i h light) before in
         let ne = going set i light none over in
         small i light (walked set i (omega arith) .floor) (omega (arith, ne)) end))
 
@@ -207,7 +207,7 @@ module _ (set : Set) where
         spreads-on i h (parts .0) (parts .1) (spreads i (omega arith) (parts .0)) (step set i)
 
     -- a light model that is refused shows how much the models weigh
-    crowded : (i : ℕ) → i < models-of set → first-below (about-light set) i ≡ None → heavy set i ≡ false → stand set i .worker ≡ workers-of set → grain-of set < stand set i .load + weight-of set i → Modest set → ⊥
+    crowded : (i : ℕ) → i < models-of set → first-below (about-light set) i ≡ None → heavy set i ≡ false → cursor set i .worker ≡ workers-of set → grain-of set < cursor set i .load + weight-of set i → Modest set → ⊥
     unfolding light-weight
     crowded i h none light last over modest =
         let n = models-of set in
@@ -224,7 +224,7 @@ module _ (set : Set) where
         (λ (narrow : k < m).
         too-much k m grain alone (m - alone) (light-weight n) (heavy-weight n) (total-weight set n) (light-weight i + weight-of set i)
         (omega arith) whole-weight (heavy-heavy n) all
-        (spread-over alone k grain (stand set i) (light-weight i) spread (weight-of set i) m last over (set .sizes .«some_grain»))
+        (spread-over alone k grain (cursor set i) (light-weight i) spread (weight-of set i) m last over (set .sizes .«some_grain»))
         (modest .0 narrow))
         (λ (wide : m ≤ k).
         let e : k ≡ m = omega arith in
@@ -234,7 +234,7 @@ module _ (set : Set) where
         omega (
           arith,
           modest .1 e,
-          spread-all alone k grain (stand set i) (light-weight i) spread (weight-of set i) m last first over,
+          spread-all alone k grain (cursor set i) (light-weight i) spread (weight-of set i) m last first over,
           ap (λ x. x * grain) d,
         ))
         (cases-lt k m)
@@ -272,8 +272,8 @@ module _ (set : Set) where
           (λ bad.
           let parts = or-parts _ _ bad in
           let rest = or-parts _ _ (parts .1) in
-          absurd (crowded (roomy modest) i h none (parts .0) (eqb-true (stand set i .worker) (workers-of set) (not-false _ (rest .1))) (leb-false (stand set i .load + weight-of set i) (grain-of set) (rest .0)) modest))
-          (cases-bool (heavy set i || (fits (grain-of set) (stand set i) (weight-of set i) || not (eqb (stand set i .worker) (workers-of set)))))
+          absurd (crowded (roomy modest) i h none (parts .0) (eqb-true (cursor set i .worker) (workers-of set) (not-false _ (rest .1))) (leb-false (cursor set i .load + weight-of set i) (grain-of set) (rest .0)) modest))
+          (cases-bool (heavy set i || (fits (grain-of set) (cursor set i) (weight-of set i) || not (eqb (cursor set i .worker) (workers-of set)))))
 
       all : (i : ℕ) → i ≤ models-of set → first-below (about-light set) i ≡ None
       all zero h = refl

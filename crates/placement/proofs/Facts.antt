@@ -13,7 +13,7 @@ use Rattle.set.specs.Sets.{models-of, grain-of}
 use Rattle.plan.specs.declared.pieces.Pieces.{Pieces}
 use Rattle.plan.specs.declared.pieces.Pieces.the-variants.{Whole, Divided}
 use Rattle.plan.specs.Shares.{worker-of, last-of, second-of, pieces-at, carried}
-use Rattle.plan.specs.Facts.{Loaded, Shared, Grouped, OneFirst, OneSecond, Lasting}
+use Rattle.plan.specs.Facts.{Loaded, Shared, Grouped, OneFirst, OneSecond, Positive}
 use Rattle.placement.specs.Rules.{alone-of, placed, room-for-light, about-light}
 use Rattle.placement.specs.Placing.{Seated}
 use Rattle.placement.proofs.Carries.{carried-same}
@@ -56,5 +56,5 @@ module _ (set : Set) (pieces : List Pieces) (seated : Seated set (models-of set)
   one-second-piece i j (both, e) =
       one-first-piece i j (both, omega (arith, e, last-divided (pieces-at pieces i) (both .2), last-divided (pieces-at pieces j) (both .3)))
 
-  pub lasting : Lasting set pieces
-  lasting i h = let w = well-at i h in (w .some-first, w .some-second)
+  pub positive : Positive set pieces
+  positive i h = let w = well-at i h in (w .some-first, w .some-second)

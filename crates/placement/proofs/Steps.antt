@@ -13,16 +13,16 @@ use Rattle.std.specs.declared.option.Option.the-variants.{None}
 use Rattle.std.proofs.shelf.Lists.{getD-set-same, getD-set-other}
 use Rattle.std.proofs.shelf.Tests.{cond-true, cond-false, cases-eq, or-left}
 use Rattle.set.specs.declared.sets.Set.{Set}
-use Rattle.set.specs.Sets.{models-of, grain-of, weight-of}
+use Rattle.set.specs.Sets.{models-of, grain-of, weight-of, workers-of, group-size-of}
 use Rattle.plan.specs.declared.pieces.Pieces.{Pieces}
 use Rattle.plan.specs.declared.pieces.Pieces.the-variants.{Whole}
-use Rattle.placement.specs.declared.stands.Stand.{Stand}
+use Rattle.placement.specs.declared.cursors.Cursor.{Cursor}
 use Rattle.plan.specs.Shares.{nowhere}
 use Rattle.refusal.specs.Refusals.{check, first-below}
-use Rattle.placement.specs.Rules.{is-heavy, heavy, heavies, alone-of, workers-of, group-size-of, fits, seated, moved, stand, placed, no-room, about-light, room-for-light}
+use Rattle.placement.specs.Rules.{is-heavy, heavy, heavies, alone-of, fits, seated, moved, cursor, placed, no-room, about-light, room-for-light}
 use Rattle.placement.specs.Placing.{Seated}
 use Rattle.placement.proofs.Walks.{walked}
-use Rattle.placement.proofs.Keeps.{enough, stand-within}
+use Rattle.placement.proofs.Keeps.{enough, cursor-within}
 
 module _ (set : Set) (i weight : ℕ) (r : Bool) (weighs : weight ≡ weight-of set i) (told : r ≡ is-heavy set weight) where
   heavy-is : (b : Bool) → r ≡ b → heavy set i ≡ b
@@ -36,8 +36,8 @@ module _ (set : Set) (i weight : ℕ) (r : Bool) (weighs : weight ≡ weight-of 
 
   -- a heavy model
   module _ (is : r ≡ true) where
-    pub stand-stays : stand set (i + 1) ≡ stand set i
-    stand-stays = rw (add-one i) (cond-true (heavy set i) _ _ (heavy-is true is))
+    pub cursor-stays : cursor set (i + 1) ≡ cursor set i
+    cursor-stays = rw (add-one i) (cond-true (heavy set i) _ _ (heavy-is true is))
 
     pub heavy-passes : about-light set i ≡ None
     heavy-passes = cond-true _ _ _ (or-left (heavy set i) _ (heavy-is true is))
@@ -46,28 +46,28 @@ module _ (set : Set) (i weight : ℕ) (r : Bool) (weighs : weight ≡ weight-of 
     heavy-placed h e = rw (e, weighs) (sym (cond-true (heavy set i) _ _ (heavy-is true is)))
 
   -- a light model, tried at s
-  module _ (is-not : r ≡ false) (s : Stand) (here : s ≡ stand set i) (alone : ℕ) (all : alone ≡ alone-of set) where
+  module _ (is-not : r ≡ false) (s : Cursor) (here : s ≡ cursor set i) (alone : ℕ) (all : alone ≡ alone-of set) where
     pub light-told : check (fits (grain-of set) s weight || not (eqb (s .worker) (workers-of set))) (no-room (i + 1)) None ≡ about-light set i
     light-told = rw (here, weighs, heavy-is false is-not) refl
 
     pub light-placed : (x : Pieces) → x ≡ seated alone (group-size-of set) (grain-of set) s weight → x ≡ placed set i
     light-placed x e = e ∙ rw (all, here, weighs) (sym (cond-false (heavy set i) _ _ (heavy-is false is-not)))
 
-    pub stand-moves : (x : Pieces) → x ≡ seated alone (group-size-of set) (grain-of set) s weight → moved s x ≡ stand set (i + 1)
-    stand-moves x e = rw (e, all, here, weighs, add-one i) (sym (cond-false (heavy set i) _ _ (heavy-is false is-not)))
+    pub cursor-moves : (x : Pieces) → x ≡ seated alone (group-size-of set) (grain-of set) s weight → moved s x ≡ cursor set (i + 1)
+    cursor-moves x e = rw (e, all, here, weighs, add-one i) (sym (cond-false (heavy set i) _ _ (heavy-is false is-not)))
 
     module _ (h : i < models-of set) (ok : room-for-light set ≡ true) (none : first-below (about-light set) i ≡ None) where
-      pub stand-ready : (alone < s .worker) × (s .worker ≤ workers-of set) × (s .load ≤ grain-of set)
-      stand-ready =
+      pub cursor-ready : (alone < s .worker) × (s .worker ≤ workers-of set) × (s .load ≤ grain-of set)
+      cursor-ready =
           let level = walked set i (omega arith) in
-          let in-m = stand-within set i (enough set ok .1 i h (heavy-is false is-not)) none in
+          let in-m = cursor-within set i (enough set ok .1 i h (heavy-is false is-not)) none in
           rw (all, here) (level .floor, in-m, level .room)
 
       pub moved-ready : (x : Pieces) → x ≡ seated alone (group-size-of set) (grain-of set) s weight → about-light set i ≡ None → (moved s x .worker ≤ workers-of set) × (moved s x .load ≤ grain-of set)
       moved-ready x e fine =
           let level = walked set (suc i) h in
-          let in-m = stand-within set (suc i) (enough set ok .1 i h (heavy-is false is-not)) (rw none fine) in
-          rw (stand-moves x e, add-one i) (in-m, level .room)
+          let in-m = cursor-within set (suc i) (enough set ok .1 i h (heavy-is false is-not)) (rw none fine) in
+          rw (cursor-moves x e, add-one i) (in-m, level .room)
 
 -- one model more
 pub seated-more : (set : Set) (i : ℕ) (ps : List Pieces) (x : Pieces) → i < length ps → x ≡ placed set i → Seated set i ps → Seated set (i + 1) (put ps i x)

@@ -8,19 +8,19 @@ use native.Mathlib.Omega.{arith}
 use lib.Dec.{eqb}
 use Rattle.std.proofs.shelf.Tests.{cases-bool, cond-true, cond-false, leb-true, leb-false, eqb-true, eqb-false, eq-eqb, ne-eqb, cases-eq, or-cases, or-parts}
 use Rattle.set.specs.declared.sets.Set.{Set}
-use Rattle.set.specs.Sets.{models-of, grain-of, weight-of}
+use Rattle.set.specs.Sets.{models-of, grain-of, weight-of, group-size-of}
 use Rattle.plan.specs.declared.pieces.Pieces.{Pieces}
 use Rattle.plan.specs.declared.pieces.Pieces.the-variants.{Whole, Divided}
 use Rattle.plan.specs.Shares.{on-worker, carried}
 use Rattle.set.proofs.Weights.{weighs}
-use Rattle.placement.specs.declared.stands.Stand.{Stand}
-use Rattle.placement.specs.Rules.{fits, ends, seated, moved, heavy, heavies, alone-of, group-size-of, stand, placed}
+use Rattle.placement.specs.declared.cursors.Cursor.{Cursor}
+use Rattle.placement.specs.Rules.{fits, ends, seated, moved, heavy, heavies, alone-of, cursor, placed}
 use Rattle.placement.proofs.Rises.{rises}
 use Rattle.placement.proofs.Carries.{whole-here, whole-else, split-first, split-second, split-else}
 
-module _ (alone k grain : ℕ) (s : Stand) (w : ℕ) where
+module _ (alone k grain : ℕ) (s : Cursor) (w : ℕ) where
   -- the three ways to seat a light model: its pieces x, and where the next one is tried
-  pub data Seat (x : Pieces) (t : Stand) : Type 0 where
+  pub data Seat (x : Pieces) (t : Cursor) : Type 0 where
     whole : s .load + w ≤ grain → x ≡ Whole (s .worker) w → t ≡ record { worker = s .worker; load = s .load + w } → Seat x t
     fresh : grain < s .load + w → (ends alone k (s .worker) ≡ true) ⊎ (s .load ≡ grain) → x ≡ Whole (s .worker + 1) w → t ≡ record { worker = s .worker + 1; load = w } → Seat x t
     split : grain < s .load + w → ends alone k (s .worker) ≡ false → (s .load ≡ grain → ⊥) → x ≡ Divided (s .worker) (grain - s .load) (s .load + w - grain) → t ≡ record { worker = s .worker + 1; load = s .load + w - grain } → Seat x t
@@ -53,11 +53,11 @@ module _ (alone k grain : ℕ) (s : Stand) (w : ℕ) where
       goes-on : moved s (Whole (s .worker + 1) w) ≡ record { worker = s .worker + 1; load = w }
       goes-on = ap (λ l. record { worker = s .worker + 1; load = l }) (cond-false (eqb (s .worker + 1) (s .worker)) _ _ (ne-eqb (s .worker + 1) (s .worker) (λ e. omega arith)))
 
-seat-at : (alone k grain : ℕ) (s : Stand) (w : ℕ) (x x′ : Pieces) (t t′ : Stand) → x ≡ x′ → t ≡ t′ → Seat alone k grain s w x′ t′ → Seat alone k grain s w x t
+seat-at : (alone k grain : ℕ) (s : Cursor) (w : ℕ) (x x′ : Pieces) (t t′ : Cursor) → x ≡ x′ → t ≡ t′ → Seat alone k grain s w x′ t′ → Seat alone k grain s w x t
 seat-at alone k grain s w x x′ t t′ e₁ e₂ seat = rw (e₁, e₂) seat
 
 -- what the workers carry before some model: h heavy ones are placed, and the next light one is tried at s
-pub record Level (alone grain h : ℕ) (s : Stand) (load : ℕ → ℕ) : Type 0 where
+pub record Level (alone grain h : ℕ) (s : Cursor) (load : ℕ → ℕ) : Type 0 where
   pub floor : alone < s .worker
   pub room : s .load ≤ grain
   pub here : load (s .worker) ≡ s .load
@@ -65,10 +65,10 @@ pub record Level (alone grain h : ℕ) (s : Stand) (load : ℕ → ℕ) : Type 0
   pub free : (p : ℕ) → h < p → p ≤ alone → load p ≡ 0
   pub most : (p : ℕ) → load p ≤ grain
 
-level-at : (alone grain : ℕ) (load : ℕ → ℕ) (h h′ : ℕ) (t t′ : Stand) (x x′ : Pieces) → h ≡ h′ → t ≡ t′ → x ≡ x′ → Level alone grain h′ t′ (λ p. load p + on-worker p x′) → Level alone grain h t (λ p. load p + on-worker p x)
+level-at : (alone grain : ℕ) (load : ℕ → ℕ) (h h′ : ℕ) (t t′ : Cursor) (x x′ : Pieces) → h ≡ h′ → t ≡ t′ → x ≡ x′ → Level alone grain h′ t′ (λ p. load p + on-worker p x′) → Level alone grain h t (λ p. load p + on-worker p x)
 level-at alone grain load h h′ t t′ x x′ e₁ e₂ e₃ l = rw (e₁, e₂, e₃) l
 
-module _ (alone grain h : ℕ) (s : Stand) (load : ℕ → ℕ) (level : Level alone grain h s load) (w : ℕ) (light : w ≤ grain) where
+module _ (alone grain h : ℕ) (s : Cursor) (load : ℕ → ℕ) (level : Level alone grain h s load) (w : ℕ) (light : w ≤ grain) where
   level-heavy : h + 1 ≤ alone → Level alone grain (h + 1) s (λ p. load p + on-worker p (Whole (h + 1) w))
   level-heavy low = record {
     floor = level .floor;
@@ -127,7 +127,7 @@ module _ (alone grain h : ℕ) (s : Stand) (load : ℕ → ℕ) (level : Level a
             (cases-eq (s .worker) p);
       }
 
-  level-light : (k h′ : ℕ) (x : Pieces) (t : Stand) → h′ ≡ h → Seat alone k grain s w x t → Level alone grain h′ t (λ p. load p + on-worker p x)
+  level-light : (k h′ : ℕ) (x : Pieces) (t : Cursor) → h′ ≡ h → Seat alone k grain s w x t → Level alone grain h′ t (λ p. load p + on-worker p x)
   level-light k h′ x t e (whole fit ex et) = level-at alone grain load h′ h t _ x _ e et ex (level-whole fit)
   level-light k h′ x t e (fresh over why ex et) = level-at alone grain load h′ h t _ x _ e et ex level-fresh
   level-light k h′ x t e (split over going some ex et) = level-at alone grain load h′ h t _ x _ e et ex (level-split over)
@@ -138,8 +138,8 @@ module _ (set : Set) where
 
   -- one model of the walk
   pub data Step (i : ℕ) : Type 0 where
-    heavy-step : heavy set i ≡ true → heavies set (suc i) ≡ heavies set i + 1 → placed set i ≡ Whole (heavies set i + 1) (weight-of set i) → stand set (suc i) ≡ stand set i → Step i
-    light-step : heavy set i ≡ false → heavies set (suc i) ≡ heavies set i → Seat (alone-of set) (group-size-of set) (grain-of set) (stand set i) (weight-of set i) (placed set i) (stand set (suc i)) → Step i
+    heavy-step : heavy set i ≡ true → heavies set (suc i) ≡ heavies set i + 1 → placed set i ≡ Whole (heavies set i + 1) (weight-of set i) → cursor set (suc i) ≡ cursor set i → Step i
+    light-step : heavy set i ≡ false → heavies set (suc i) ≡ heavies set i → Seat (alone-of set) (group-size-of set) (grain-of set) (cursor set i) (weight-of set i) (placed set i) (cursor set (suc i)) → Step i
 
   pub step : (i : ℕ) → Step i
   step i =
@@ -150,20 +150,20 @@ module _ (set : Set) where
       (cond-true (heavy set i) _ _ yes′))
       (λ (no′ : heavy set i ≡ false). light-step no′
       (ap (λ n. heavies set i + n) (cond-false (heavy set i) 1 0 no′) ∙ add-zero (heavies set i))
-      (seat-at _ _ _ _ _ _ _ _ _ (cond-false (heavy set i) _ _ no′) (cond-false (heavy set i) _ _ no′) (seat-cases (alone-of set) (group-size-of set) (grain-of set) (stand set i) (weight-of set i))))
+      (seat-at _ _ _ _ _ _ _ _ _ (cond-false (heavy set i) _ _ no′) (cond-false (heavy set i) _ _ no′) (seat-cases (alone-of set) (group-size-of set) (grain-of set) (cursor set i) (weight-of set i))))
       (cases-bool (heavy set i))
 
   -- what the workers carry before model i
   abbrev Walked : ℕ → Type 0
-  Walked i = Level (alone-of set) (grain-of set) (heavies set i) (stand set i) (λ p. carried (placed set) p i)
+  Walked i = Level (alone-of set) (grain-of set) (heavies set i) (cursor set i) (λ p. carried (placed set) p i)
 
   walks : (i : ℕ) → i < models-of set → Walked i → Step i → Walked (suc i)
   walks i h before (heavy-step is more x t) =
       level-at (alone-of set) (grain-of set) (λ p. carried (placed set) p i) _ _ _ _ _ _ more t x
-      (level-heavy (alone-of set) (grain-of set) (heavies set i) (stand set i) (λ p. carried (placed set) p i) before (weight-of set i) (weighs set i h .fits)
+      (level-heavy (alone-of set) (grain-of set) (heavies set i) (cursor set i) (λ p. carried (placed set) p i) before (weight-of set i) (weighs set i h .fits)
       (omega (arith, heavies-rise (models-of set) (suc i) h)))
   walks i h before (light-step no′ same seat) =
-      level-light (alone-of set) (grain-of set) (heavies set i) (stand set i) (λ p. carried (placed set) p i) before (weight-of set i) (weighs set i h .fits) (group-size-of set) _ _ _ same seat
+      level-light (alone-of set) (grain-of set) (heavies set i) (cursor set i) (λ p. carried (placed set) p i) before (weight-of set i) (weighs set i h .fits) (group-size-of set) _ _ _ same seat
 
   pub walked : (i : ℕ) → i ≤ models-of set → Walked i
   walked zero h = record {

@@ -7,12 +7,12 @@ use Rattle.std.specs.declared.result.Result.the-variants.{Ok, Err}
 use Rattle.refusal.specs.Refusals.{Answers}
 use Rattle.refusal.specs.declared.Refusal.{Refusal}
 use Rattle.set.specs.declared.sets.Set.{Set}
-use Rattle.set.specs.Sets.{models-of, grain-of}
+use Rattle.set.specs.Sets.{models-of, grain-of, workers-of, group-size-of}
 use Rattle.setfile.specs.Reading.{Reads}
 use Rattle.plan.specs.declared.pieces.Pieces.{Pieces}
 use Rattle.plan.specs.declared.plans.Plan.{Plan}
 use Rattle.plan.specs.Shares.{pieces-at, nowhere}
-use Rattle.placement.specs.Rules.{about-placing, alone-of, placed, total-weight, workers-of, group-size-of}
+use Rattle.placement.specs.Rules.{about-placing, alone-of, placed, total-weight}
 
 -- the first n models are where the rules place them, and the slots behind them hold nothing
 pub record Seated (set : Set) (n : ℕ) (pieces : List Pieces) : Type 0 where

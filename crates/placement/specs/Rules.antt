@@ -4,16 +4,17 @@ use Prim.Native.Nat.{ℕ, zero, suc, _+_, _-_, _*_, _%_}
 use lib.Dec.{eqb, leb, ltb}
 use Rattle.std.specs.declared.option.Option.{Option}
 use Rattle.std.specs.declared.option.Option.the-variants.{None}
-use Rattle.refusal.specs.Refusals.{Complaint, check, first-below}
+use Rattle.refusal.specs.Refusals.{Complaint, number-of, check, first-below}
+use Rattle.refusal.specs.declared.Fault.the-variants.{Heavy, Full}
 use Rattle.refusal.specs.declared.Layer.the-variants.{Placement}
 use Rattle.set.specs.declared.sets.Set.{Set}
-use Rattle.set.specs.Sets.{models-of, grain-of, weight-of}
+use Rattle.set.specs.Sets.{models-of, workers-of, group-size-of, grain-of, weight-of}
 use Rattle.plan.specs.declared.pieces.Pieces.{Pieces}
 use Rattle.plan.specs.declared.pieces.Pieces.the-variants.{Whole, Divided}
-use Rattle.placement.specs.declared.stands.Stand.{Stand}
+use Rattle.placement.specs.declared.cursors.Cursor.{Cursor}
 
 -- the model fits whole on the worker
-abbrev pub fits : ℕ → Stand → ℕ → Bool
+abbrev pub fits : ℕ → Cursor → ℕ → Bool
 fits grain s weight = leb (s .load + weight) grain
 
 -- a group of k workers ends with this one, where workers 1 to alone are groups of one
@@ -22,35 +23,29 @@ ends alone k p = eqb ((p - alone) % k) 0
 
 -- a light model goes whole on the worker if it fits; else whole on the next if the group ends here or the worker is full;
 -- else it is divided, and its first piece fills the worker
-abbrev pub seated : ℕ → ℕ → ℕ → Stand → ℕ → Pieces
+abbrev pub seated : ℕ → ℕ → ℕ → Cursor → ℕ → Pieces
 seated alone k grain s weight =
     cond (fits grain s weight) (Whole (s .worker) weight)
     (cond (ends alone k (s .worker) || eqb (s .load) grain) (Whole (s .worker + 1) weight)
     (Divided (s .worker) (grain - s .load) (s .load + weight - grain)))
 
--- where the model after it is tried: on the last worker that it is on
-abbrev pub moved : Stand → Pieces → Stand
+-- the worker that is filled next: the last one that the model is on
+abbrev pub moved : Cursor → Pieces → Cursor
 moved s (Whole p size) = record { worker = p; load = cond (eqb p (s .worker)) (s .load + size) size }
 moved s (Divided p first second) = record { worker = p + 1; load = second }
 
 -- a light model finds no room on the last worker
 abbrev pub no-room : ℕ → Complaint
-no-room model = record { number = 7; layer = Placement; place = model }
+no-room model = record { number = number-of Full; layer = Placement; place = model }
 
 -- the heavy models leave too few workers
 abbrev pub too-heavy : ℕ → Complaint
-too-heavy count = record { number = 6; layer = Placement; place = count }
+too-heavy count = record { number = number-of Heavy; layer = Placement; place = count }
 
 module _ (set : Set) where
-  abbrev pub workers-of : ℕ
-  workers-of = set .sizes .workers
-
-  abbrev pub group-size-of : ℕ
-  group-size-of = set .sizes .«group_size»
-
   -- a weight is heavy where groups are smaller than the rack, and it is more than k / (k + 1) of the grain
   abbrev pub is-heavy : ℕ → Bool
-  is-heavy weight = ltb group-size-of workers-of && ltb (group-size-of * grain-of set) (weight * (group-size-of + 1))
+  is-heavy weight = ltb (group-size-of set) (workers-of set) && ltb (group-size-of set * grain-of set) (weight * (group-size-of set + 1))
 
   abbrev pub heavy : ℕ → Bool
   heavy i = is-heavy (weight-of set i)
@@ -64,23 +59,23 @@ module _ (set : Set) where
   abbrev pub alone-of : ℕ
   alone-of = heavies (models-of set)
 
-  -- where model i is tried, if it is light: the first one on the worker behind the heavy models'
-  abbrev pub stand : ℕ → Stand
-  stand zero = record { worker = alone-of + 1; load = 0 }
-  stand (suc i) = cond (heavy i) (stand i) (moved (stand i) (seated alone-of group-size-of (grain-of set) (stand i) (weight-of set i)))
+  -- the worker that is being filled when model i comes, and its load by then: at first the one behind the heavy models'
+  abbrev pub cursor : ℕ → Cursor
+  cursor zero = record { worker = alone-of + 1; load = 0 }
+  cursor (suc i) = cond (heavy i) (cursor i) (moved (cursor i) (seated alone-of (group-size-of set) (grain-of set) (cursor i) (weight-of set i)))
 
   -- where model i goes: a heavy one alone on the next of the first workers
   abbrev pub placed : ℕ → Pieces
-  placed i = cond (heavy i) (Whole (heavies i + 1) (weight-of set i)) (seated alone-of group-size-of (grain-of set) (stand i) (weight-of set i))
+  placed i = cond (heavy i) (Whole (heavies i + 1) (weight-of set i)) (seated alone-of (group-size-of set) (grain-of set) (cursor i) (weight-of set i))
 
   -- the heavy models need a worker each, and the light ones, if any, at least one more
   abbrev pub room-for-light : Bool
-  room-for-light = ltb alone-of workers-of || (eqb alone-of workers-of && eqb alone-of (models-of set))
+  room-for-light = ltb alone-of (workers-of set) || (eqb alone-of (workers-of set) && eqb alone-of (models-of set))
 
   -- a light model that does not fit on the last worker
   abbrev pub about-light : ℕ → Option Complaint
   about-light i =
-      check (heavy i || (fits (grain-of set) (stand i) (weight-of set i) || not (eqb (stand i .worker) workers-of)))
+      check (heavy i || (fits (grain-of set) (cursor i) (weight-of set i) || not (eqb (cursor i .worker) (workers-of set))))
       (no-room (i + 1)) None
 
   -- all that can be wrong with a set when it is placed, the first fault first

@@ -9,7 +9,7 @@ ghost use Rattle.set.specs.Sets.{models-of, grain-of, weight-of};
 ghost use Rattle.plan.specs.Shares.{worker-of, last-of, on-worker, pieces-at, carried};
 ghost use Rattle.placement.specs.Rules.{is-heavy, alone-of, room-for-light, too-heavy, about-light};
 ghost use Rattle.placement.specs.Placing.{Places, Seated, Modest};
-use crate::stands::Stand;
+use crate::cursors::Cursor;
 use plan::pieces::Pieces;
 use plan::plans::Plan;
 use refusal::Fault;
@@ -19,7 +19,8 @@ use set::sets::Set;
 use set::sizes::MODELS;
 use set::sizes::WORKERS;
 
-// The plan of a set, by the rules. No set that weighs little enough is refused.
+// The plan of a set, by the rules. A set is never refused whose models weigh at most k / (k + 1) of what the workers can do,
+// or all of it where the workers are one group.
 pub fn place(set: &Set) -> Result<Plan, Refusal>
     ensures places { λ r. ⌜ Places (now (set .entry)) r ⌝ }
     ensures modest { λ r. ⌜ (Modest (now (set .entry)) → isOk r ≡ true) ⌝ }
@@ -43,7 +44,7 @@ fn seat_all(set: &Set, alone: u32) -> Result<[Pieces; MODELS], Refusal>
     ensures { λ r. ⌜ Answers (first-below (about-light (now (set .entry))) (models-of (now (set .entry)))) r (Seated (now (set .entry)) (models-of (now (set .entry)))) ⌝ }
 {
     let mut heavies = 0;
-    let mut stand = Stand {
+    let mut cursor = Cursor {
         worker: alone + 1,
         load: 0,
     };
@@ -57,8 +58,8 @@ fn seat_all(set: &Set, alone: u32) -> Result<[Pieces; MODELS], Refusal>
                 size: weight,
             }
         } else {
-            let seated = stand.seat(set.sizes, alone, i as u64 + 1, weight)?;
-            stand = stand.moved(seated);
+            let seated = cursor.seat(set.sizes, alone, i as u64 + 1, weight)?;
+            cursor = cursor.moved(seated);
             seated
         };
     }

@@ -1,17 +1,18 @@
 -- What a plan is asked about.
 use Prim.Native.Nat.{ℕ, _≤_}
+use Rattle.set.specs.Sets.{workers-of, group-size-of}
 use Rattle.plan.specs.declared.plans.Plan.{Plan}
 use Rattle.plan.specs.Groups.{group-of}
 
 -- a worker of the plan has this number
 pub record Worker (plan : Plan) (worker : ℕ) : Type 0 where
   pub first : 1 ≤ worker
-  pub last : worker ≤ plan .set .sizes .workers
+  pub last : worker ≤ workers-of (plan .set)
 
 -- the group of worker p
 abbrev pub group-in : Plan → ℕ → ℕ
-group-in plan p = group-of (plan .alone) (plan .set .sizes .«group_size») p
+group-in plan p = group-of (plan .alone) (group-size-of (plan .set)) p
 
 -- groups are numbered from 1 in the workers' order, so there are as many as the last worker's group says
 abbrev pub groups-in : Plan → ℕ
-groups-in plan = group-in plan (plan .set .sizes .workers)
+groups-in plan = group-in plan (workers-of (plan .set))

@@ -1,10 +1,10 @@
--- The four facts that every plan has, and the only ones that code above it may use.
+-- The four facts that every plan has. Beside the limits of its set they are all that code above may use.
 use mathlib.Core.Path.{_≡_}
 use mathlib.Core.List.{List}
 use Prim.Native.Nat.{ℕ, _+_, _<_, _≤_}
 use lib.ListN.{getD}
 use Rattle.set.specs.declared.sets.Set.{Set}
-use Rattle.set.specs.Sets.{models-of, grain-of, weight-of}
+use Rattle.set.specs.Sets.{models-of, workers-of, group-size-of, grain-of, weight-of}
 use Rattle.plan.specs.declared.pieces.Pieces.{Pieces}
 use Rattle.plan.specs.Shares.{worker-of, last-of, first-of, second-of, pieces-at, carried}
 use Rattle.plan.specs.Groups.{group-of}
@@ -16,10 +16,10 @@ module _ (set : Set) (pieces : List Pieces) where
 
   -- 2. a model is on one worker or on two neighbours, in one group, and its pieces add up to its weight
   abbrev pub Shared : Type 0
-  Shared = (i : ℕ) → i < models-of set → (1 ≤ worker-of (pieces-at pieces i)) × (last-of (pieces-at pieces i) ≤ set .sizes .workers) × (first-of (pieces-at pieces i) + second-of (pieces-at pieces i) ≡ weight-of set i)
+  Shared = (i : ℕ) → i < models-of set → (1 ≤ worker-of (pieces-at pieces i)) × (last-of (pieces-at pieces i) ≤ workers-of set) × (first-of (pieces-at pieces i) + second-of (pieces-at pieces i) ≡ weight-of set i)
 
   abbrev pub Grouped : ℕ → Type 0
-  Grouped alone = (i : ℕ) → i < models-of set → group-of alone (set .sizes .«group_size») (worker-of (pieces-at pieces i)) ≡ group-of alone (set .sizes .«group_size») (last-of (pieces-at pieces i))
+  Grouped alone = (i : ℕ) → i < models-of set → group-of alone (group-size-of set) (worker-of (pieces-at pieces i)) ≡ group-of alone (group-size-of set) (last-of (pieces-at pieces i))
 
   -- 3. a worker has at most one first and one second piece
   abbrev pub BothDivided : ℕ → ℕ → Type 0
@@ -32,5 +32,5 @@ module _ (set : Set) (pieces : List Pieces) where
   OneSecond = (i j : ℕ) → BothDivided i j × (last-of (pieces-at pieces i) ≡ last-of (pieces-at pieces j)) → i ≡ j
 
   -- 4. every piece is at least 1
-  abbrev pub Lasting : Type 0
-  Lasting = (i : ℕ) → i < models-of set → (1 ≤ first-of (pieces-at pieces i)) × (worker-of (pieces-at pieces i) < last-of (pieces-at pieces i) → 1 ≤ second-of (pieces-at pieces i))
+  abbrev pub Positive : Type 0
+  Positive = (i : ℕ) → i < models-of set → (1 ≤ first-of (pieces-at pieces i)) × (worker-of (pieces-at pieces i) < last-of (pieces-at pieces i) → 1 ≤ second-of (pieces-at pieces i))

@@ -11,7 +11,7 @@ pub struct Workers {
 }
 
 // The group of a worker.
-pub(crate) fn group_of(alone: u32, group_size: u32, worker: u32) -> u32
+pub(crate) fn worker_group(alone: u32, group_size: u32, worker: u32) -> u32
     requires { ⌜ 1 ≤ «group_size» ⌝ }
     ensures { λ r. ⌜ r ≡ group-of alone «group_size» worker ⌝ }
 {
@@ -29,7 +29,7 @@ pub(crate) fn workers_of(alone: u32, group_size: u32, workers: u32, group: u32) 
     requires { ⌜ workers ≤ 32 ⌝ }
     ensures { λ r. ⌜ Cases r (NoGroup (group-of alone «group_size») workers group) (λ w. Group (group-of alone «group_size») workers group (w .first) (w .last)) ⌝ }
 {
-    let groups = group_of(alone, group_size, workers);
+    let groups = worker_group(alone, group_size, workers);
     if group < 1 || group > groups {
         return None;
     }

@@ -1,4 +1,4 @@
-ghost use Rattle.plan.specs.Facts.{Loaded, Shared, Grouped, OneFirst, OneSecond, Lasting};
+ghost use Rattle.plan.specs.Facts.{Loaded, Shared, Grouped, OneFirst, OneSecond, Positive};
 use crate::pieces::Pieces;
 use set::sets::Set;
 use set::sizes::MODELS;
@@ -17,7 +17,7 @@ pub struct Plan {
     ghost grouped: { Grouped set pieces alone },
     ghost one_first: { OneFirst set pieces },
     ghost one_second: { OneSecond set pieces },
-    ghost lasting: { Lasting set pieces },
+    ghost positive: { Positive set pieces },
 }
 
 mod answers;

@@ -1,6 +1,6 @@
 -- What a line says.
 --     spaced n      a space and n in decimal digits
---     line-of tag numbers      the tag, a word for each number, and the end of the line
+--     line-of tag numbers      the tag, each number behind a space, and the end of the line
 use mathlib.Core.List.{List, [], _∷_, _++_}
 use Prim.Native.Nat.{ℕ}
 use Rattle.std.specs.Joined.{joined}

@@ -9,14 +9,15 @@ use Rattle.std.specs.declared.option.Option.the-variants.{None}
 use Rattle.std.specs.declared.result.Result.{Result}
 use Rattle.refusal.specs.declared.Layer.the-variants.{Running}
 use Rattle.refusal.specs.declared.Refusal.{Refusal}
-use Rattle.refusal.specs.Refusals.{Complaint, check}
+use Rattle.refusal.specs.Refusals.{Complaint, number-of, check}
+use Rattle.refusal.specs.declared.Fault.the-variants.{Memory}
 use Rattle.plan.specs.declared.plans.Plan.{Plan}
 use Rattle.placement.specs.Placing.{PlacesFile}
 use Rattle.printout.specs.Texts.{text-of}
 
 -- memory for a text is refused under 16384 bytes; place 3 stands for the text
 abbrev pub about-memory : ℕ → Option Complaint
-about-memory room = check (leb 16384 room) (record { number = 10; layer = Running; place = 3 }) None
+about-memory room = check (leb 16384 room) (record { number = number-of Memory; layer = Running; place = 3 }) None
 
 -- the first n bytes are the text of what placing the file gives, and the others stay as they were
 pub record Printed (bytes before after : List ℕ) (n : ℕ) : Type 0 where

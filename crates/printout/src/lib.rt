@@ -2,7 +2,7 @@
 ghost use mathlib.Core.Path.{_≡_};
 ghost use Prim.Native.Nat.{_≤_};
 ghost use lib.ListN.{length};
-ghost use Rattle.std.specs.Vec.{made, refused};
+ghost use Rattle.std.specs.Results.{Cases};
 ghost use Rattle.refusal.specs.Refusals.{Answers};
 ghost use Rattle.printout.specs.Printing.{about-memory, Printed};
 use lines::text_lines;
@@ -18,11 +18,10 @@ mod page;
 // The least memory that a text is written to: every text fits it.
 pub const TEXT_BYTES: usize = 16384;
 
-// Prints the plan of a set file, or the refusal of it, and answers the bytes of the text.
+// Prints the plan of a set file, or the refusal of it, and answers how many bytes the text has.
 pub fn print_file(bytes: &[u8], text: &mut [u8]) -> Result<usize, Refusal>
     ensures prints { λ r. ⌜ Answers (about-memory (length (now (text .entry)))) r (Printed (now (bytes .entry)) (now (text .entry)) (now (text .exit))) ⌝ }
-    ensures bound { λ r. ⌜ made r (λ n. n ≤ length (now (text .exit))) ⌝ }
-    ensures stays { λ r. ⌜ refused r (λ _. now (text .exit) ≡ now (text .entry)) ⌝ }
+    ensures lent { λ r. ⌜ Cases r (λ n. n ≤ length (now (text .exit))) (λ _. now (text .exit) ≡ now (text .entry)) ⌝ }
 {
     if text.len() < TEXT_BYTES {
         return Err(Refusal {

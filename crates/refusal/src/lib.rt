@@ -5,9 +5,9 @@ ghost use Rattle.refusal.specs.Refusals.{number-of, word-of};
 // What was wrong. docs/REFUSALS.md says when each one is answered.
 #[derive(Clone, Copy, PartialEq, Eq, Debug)]
 pub enum Fault {
-    // the file ends too early
+    // a file, or a buffer to write one to, has too few bytes
     Short,
-    // the file goes on too long
+    // a file has too many bytes
     Long,
     // a size of the set is outside its range
     Size,
@@ -64,7 +64,7 @@ impl Layer {
     }
 }
 
-// A fault, the layer that found it, and a place that says which size, model, byte count or buffer it is about.
+// A fault, the layer that found it, and a place: a number that says where, or how many there were.
 #[derive(Clone, Copy, PartialEq, Eq, Debug)]
 pub struct Refusal {
     pub fault: Fault,

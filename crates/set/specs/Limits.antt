@@ -6,7 +6,8 @@ use lib.Dec.{leb, eqb}
 use lib.ListN.{length, getD}
 use Rattle.std.specs.declared.option.Option.{Option}
 use Rattle.std.specs.declared.option.Option.the-variants.{None}
-use Rattle.refusal.specs.Refusals.{Complaint, check, or-else, first-below}
+use Rattle.refusal.specs.Refusals.{Complaint, number-of, check, or-else, first-below}
+use Rattle.refusal.specs.declared.Fault.the-variants.{Size, Period, Cost}
 use Rattle.refusal.specs.declared.Layer.the-variants.{Set}
 
 abbrev pub within : ℕ → ℕ → ℕ → Bool
@@ -14,7 +15,7 @@ within low high x = leb low x && leb x high
 
 -- a size that is outside its range: the place is 1 for models, 2 workers, 3 group size, 4 grain
 abbrev pub bad-size : ℕ → Complaint
-bad-size place = record { number = 3; layer = Set; place = place }
+bad-size place = record { number = number-of Size; layer = Set; place = place }
 
 abbrev pub about-sizes : ℕ → ℕ → ℕ → ℕ → Option Complaint
 about-sizes models workers group grain =
@@ -30,8 +31,8 @@ divides period grain = leb 1 period && eqb (grain % period) 0
 -- a model, counted from 1, by its cost and its period
 abbrev pub about-model : ℕ → ℕ → ℕ → ℕ → Option Complaint
 about-model grain model cost period =
-    check (divides period grain) (record { number = 4; layer = Set; place = model })
-    (check (within 1 period cost) (record { number = 5; layer = Set; place = model }) None)
+    check (divides period grain) (record { number = number-of Period; layer = Set; place = model })
+    (check (within 1 period cost) (record { number = number-of Cost; layer = Set; place = model }) None)
 
 abbrev pub about-models : ℕ → List ℕ → List ℕ → Option Complaint
 about-models grain costs periods =

@@ -14,6 +14,12 @@ module _ (set : Set) where
   abbrev pub models-of : ℕ
   models-of = set .sizes .models
 
+  abbrev pub workers-of : ℕ
+  workers-of = set .sizes .workers
+
+  abbrev pub group-size-of : ℕ
+  group-size-of = set .sizes .«group_size»
+
   abbrev pub grain-of : ℕ
   grain-of = set .sizes .grain
 

@@ -4,7 +4,7 @@ ghost use Rattle.set.specs.Models.{Timed, Costed, Clear};
 use crate::sizes::MODELS;
 use crate::sizes::Sizes;
 
-// A set that is within all limits. Slots behind the last model are 0, so equal sets have equal models.
+// A set that is within all limits. Slots behind the last model are 0, so sets with the same sizes and models are equal.
 #[derive(Clone, Copy)]
 pub struct Set {
     pub sizes: Sizes,

@@ -5,7 +5,7 @@ use lib.ListN.{getD, take}
 use Rattle.std.specs.Iters.{counting}
 use Rattle.std.specs.Joined.{joined}
 use Rattle.set.specs.declared.sets.Set.{Set}
-use Rattle.set.specs.Sets.{models-of, grain-of}
+use Rattle.set.specs.Sets.{models-of, workers-of, group-size-of, grain-of}
 
 -- the four bytes of a word, the lowest first
 abbrev pub word-bytes : ℕ → List ℕ
@@ -14,7 +14,7 @@ word-bytes word = word % 256 ∷ (word / 256 % 256 ∷ (word / 65536 % 256 ∷ (
 -- the models, the workers, the group size, the grain, then all costs, then all periods
 abbrev pub words-of : Set → List ℕ
 words-of set =
-    models-of set ∷ (set .sizes .workers ∷ (set .sizes .«group_size» ∷ (grain-of set ∷
+    models-of set ∷ (workers-of set ∷ (group-size-of set ∷ (grain-of set ∷
     (take (models-of set) (set .costs) ++ take (models-of set) (set .periods)))))
 
 abbrev pub file-of : Set → List ℕ

@@ -8,7 +8,8 @@ use Rattle.std.specs.declared.option.Option.{Option}
 use Rattle.std.specs.declared.option.Option.the-variants.{None}
 use Rattle.std.specs.declared.result.Result.{Result}
 use Rattle.std.specs.declared.result.Result.the-variants.{Ok}
-use Rattle.refusal.specs.Refusals.{Complaint, check, or-else, Answers}
+use Rattle.refusal.specs.Refusals.{Complaint, number-of, check, or-else, Answers}
+use Rattle.refusal.specs.declared.Fault.the-variants.{Short, Long}
 use Rattle.refusal.specs.declared.Layer.the-variants.{File}
 use Rattle.refusal.specs.declared.Refusal.{Refusal}
 use Rattle.set.specs.declared.sets.Set.{Set}
@@ -19,10 +20,10 @@ use Rattle.setfile.specs.Format.{file-of, word-at, words-at}
 
 -- fewer bytes than there should be, and more than that
 abbrev pub too-short : ℕ → Complaint
-too-short given = record { number = 1; layer = File; place = given }
+too-short given = record { number = number-of Short; layer = File; place = given }
 
 abbrev pub too-long : ℕ → Complaint
-too-long size = record { number = 2; layer = File; place = size }
+too-long size = record { number = number-of Long; layer = File; place = size }
 
 -- the bytes of a file with this many models
 abbrev pub size-for : ℕ → ℕ

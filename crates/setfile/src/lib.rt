@@ -55,7 +55,7 @@ pub fn read(bytes: &[u8]) -> Result<Set, Refusal>
     figures.check()
 }
 
-// Writes the file of the set that the figures make, and answers its bytes. A refusal leaves the buffer.
+// Writes the file of the set that the figures make, and answers how many bytes it has. A refusal leaves the buffer.
 pub fn write(figures: &Figures, buffer: &mut [u8]) -> Result<usize, Refusal>
     ensures answers { λ r. ⌜ Answers (about-writing (now (figures .entry)) (length (now (buffer .entry)))) r (λ n. n ≡ size-for (length (now (now (figures .entry) .costs)))) ⌝ }
     ensures written { λ r. ⌜ Cases r (λ n. Wrote (now (figures .entry)) n (now (buffer .entry)) (now (buffer .exit))) (λ _. now (buffer .exit) ≡ now (buffer .entry)) ⌝ }

@@ -1,4 +1,6 @@
 // Sets whose weights are given with the grain as period, and their plans.
+use crate::answers::at;
+use crate::answers::refused;
 use placement::place;
 use plan::groups::Workers;
 use plan::groups::WorkersDebug;
@@ -8,10 +10,10 @@ use plan::pieces::PiecesDebug;
 use plan::pieces::PiecesPartialEq;
 use plan::plans::Plan;
 use refusal::Fault;
-use refusal::FaultDebug;
-use refusal::FaultPartialEq;
+use refusal::Layer;
 use refusal::Refusal;
 use refusal::RefusalDebug;
+use refusal::RefusalPartialEq;
 use set::figures::Figures;
 use std::test::*;
 
@@ -30,21 +32,14 @@ fn placed(workers: u32, group_size: u32, grain: u32, weights: &[u32]) -> Result<
     place(&set)
 }
 
-// The fault and the place of a refusal.
-fn refused(plan: Result<Plan, Refusal>) -> Option<(Fault, u64)> {
-    match plan {
-        Ok(_) => None,
-        Err(refusal) => Some((refusal.fault, refusal.place)),
-    }
-}
-
 #[test]
 fn heavy_from_nine_of_twelve() -> Result<(), Fail> {
     let light = placed(3, 2, 12, &[8])?;
     let heavy = placed(3, 2, 12, &[9])?;
     check_eq(light.workers_in(1), Some(Workers { first: 1, last: 2 }))?;
     check_eq(heavy.workers_in(1), Some(Workers { first: 1, last: 1 }))?;
-    check_eq(heavy.workers_in(2), Some(Workers { first: 2, last: 3 }))
+    check_eq(heavy.workers_in(2), Some(Workers { first: 2, last: 3 }))?;
+    check_eq(light.group_count(), 2)
 }
 
 #[test]
@@ -59,7 +54,9 @@ fn divided_between_neighbours() -> Result<(), Fail> {
         second: 4,
     };
     check_eq(plan.pieces_of(2), Some(second))?;
-    check_eq(plan.group_of(2), Some(1))
+    check_eq(plan.group_of(2), Some(1))?;
+    check_eq(plan.sizes().workers, 3)?;
+    check_eq(plan.all_loads()[1], 12)
 }
 
 #[test]
@@ -69,7 +66,7 @@ fn filled_to_the_grain() -> Result<(), Fail> {
     check_eq(plan.load_of(2), Some(10))?;
     check_eq(
         refused(placed(2, 2, 10, &[6, 6, 9])),
-        Some((Fault::Full, 3)),
+        at(Fault::Full, Layer::Placement, 3),
     )
 }
 
@@ -91,11 +88,11 @@ fn whole_on_the_next_worker() -> Result<(), Fail> {
 fn too_many_heavy_models() -> Result<(), Fail> {
     check_eq(
         refused(placed(2, 1, 10, &[6, 6, 6])),
-        Some((Fault::Heavy, 3)),
+        at(Fault::Heavy, Layer::Placement, 3),
     )?;
     check_eq(
         refused(placed(2, 1, 10, &[6, 6, 1])),
-        Some((Fault::Heavy, 2)),
+        at(Fault::Heavy, Layer::Placement, 2),
     )?;
     check_eq(refused(placed(2, 1, 10, &[6, 6])), None)
 }

@@ -8,7 +8,7 @@ ghost use Rattle.plan.specs.Groups.{Group, NoGroup};
 ghost use Rattle.plan.specs.Answers.{Worker, group-in, groups-in};
 use super::Plan;
 use crate::groups::Workers;
-use crate::groups::group_of;
+use crate::groups::worker_group;
 use crate::groups::workers_of;
 use crate::pieces::Pieces;
 use set::sizes::Sizes;
@@ -26,10 +26,8 @@ impl Plan {
     pub fn pieces_of(&self, model: u32) -> Option<Pieces>
         ensures { λ r. ⌜ Cases r (Model (now (self .entry) .set) model → ⊥) (λ x. Model (now (self .entry) .set) model × (x ≡ pieces-at (now (self .entry) .pieces) (model - 1))) ⌝ }
     {
-        if model < 1 || model > self.set.sizes.models {
-            return None;
-        }
-        Some(self.pieces[model as usize - 1])
+        let i = self.set.slot(model)?;
+        Some(self.pieces[i])
     }
 
     // The parts of each tick that a worker's pieces take.
@@ -50,10 +48,10 @@ impl Plan {
     }
 
     // How many groups there are.
-    pub fn groups(&self) -> u32
+    pub fn group_count(&self) -> u32
         ensures { λ r. ⌜ r ≡ groups-in (now (self .entry)) ⌝ }
     {
-        group_of(
+        worker_group(
             self.alone,
             self.set.sizes.group_size,
             self.set.sizes.workers,
@@ -80,6 +78,6 @@ impl Plan {
             Pieces::Whole { worker, .. } => worker,
             Pieces::Divided { worker, .. } => worker,
         };
-        Some(group_of(self.alone, self.set.sizes.group_size, worker))
+        Some(worker_group(self.alone, self.set.sizes.group_size, worker))
     }
 }

@@ -28,11 +28,10 @@ returns c =
         cond-true _ _ _ (le-leb 16384 (length old) (c .if-text-lt-TEXT-BYTES .left)),
         record {
           placed = placed;
-          places = c .place-file-placed .ensures;
+          places = c .place-file-placed .ensures .places;
           size = size;
           text = (search needs) ∙ (all .front ∙ ap (λ n. text-of placed ++ drop n old) (sym size));
         },
       );
-      bound = let most = text-most placed in omega (arith, size);
-      stays = tt;
+      lent = let most = text-most placed in omega (arith, size);
     }

@@ -6,7 +6,7 @@ use Rattle.refusal.specs.Refusals.{told, check}
 use Rattle.refusal.proofs.Firsts.{passed, failed, not-both}
 use Rattle.placement.specs.Rules.{about-placing, room-for-light, too-heavy, alone-of}
 use Rattle.placement.proofs.Bounds.{never-refused}
-use Rattle.placement.proofs.Facts.{within, room, loaded, shared, grouped, one-first-piece, one-second-piece, lasting}
+use Rattle.placement.proofs.Facts.{within, room, loaded, shared, grouped, one-first-piece, one-second-piece, positive}
 use Rattle.placement.proofs.places.place.Needs as need
 
 pub returns-in-Break-check-room : need.returns-in-Break-check-room
@@ -53,7 +53,7 @@ ghost-result c =
             (
               one-second-piece set pieces (seated .1) ok (seated .0),
               (
-                lasting set pieces (seated .1) ok (seated .0),
+                positive set pieces (seated .1) ok (seated .0),
                 tt,
               ),
             ),

@@ -8,7 +8,7 @@ use Rattle.set.proofs.Blanks.{getD-blank}
 use Rattle.plan.specs.Shares.{nowhere}
 use Rattle.placement.specs.Rules.{about-light, heavies}
 use Rattle.placement.proofs.Keeps.{heavies-le}
-use Rattle.placement.proofs.Steps.{heavies-more, heavies-same, stand-stays, heavy-passes, heavy-placed, light-told, light-placed, stand-moves, stand-ready, moved-ready, seated-more}
+use Rattle.placement.proofs.Steps.{heavies-more, heavies-same, cursor-stays, heavy-passes, heavy-placed, light-told, light-placed, cursor-moves, cursor-ready, moved-ready, seated-more}
 use Rattle.placement.proofs.places.seat_all.Needs as need
 use Rattle.placement.proofs.places.seat_all.Needs.{then-is-heavy, else-is-heavy·in-Continue-seated}
 
@@ -26,7 +26,7 @@ add-heavies c = omega (arith, c .loop-i .inv .0, heavies-le (c .args .set .now) 
 
 pub seat-requires : need.seat-requires
 seat-requires c κs =
-    let ready = stand-ready (c .args .set .now) (c .loop-i .i) _ _ (c .weight-at-weight .ensures .is) (c .is-heavy .ensures) (c .if-is-heavy .left) (c .loop-i .stand) (c .loop-i .inv .1) (c .args .alone) (c .pre .alone) (c .loop-i-test .taken) (c .pre .room) (c .loop-i .inv .2) in
+    let ready = cursor-ready (c .args .set .now) (c .loop-i .i) _ _ (c .weight-at-weight .ensures .is) (c .is-heavy .ensures) (c .if-is-heavy .left) (c .loop-i .cursor) (c .loop-i .inv .1) (c .args .alone) (c .pre .alone) (c .loop-i-test .taken) (c .pre .room) (c .loop-i .inv .2) in
     record {
       floor = ready .0;
       last = ready .1;
@@ -39,15 +39,15 @@ returns-in-Break-seated c =
     let p = err-from-errBy (c .from-residual .result) (c .from-residual .ensures .1) in
     let set = c .args .set .now in
     let i = c .loop-i .i in
-    let same = light-told set i _ _ (c .weight-at-weight .ensures .is) (c .is-heavy .ensures) (c .if-is-heavy .left) (c .loop-i .stand) (c .loop-i .inv .1) (c .args .alone) (c .pre .alone) in
+    let same = light-told set i _ _ (c .weight-at-weight .ensures .is) (c .is-heavy .ensures) (c .if-is-heavy .left) (c .loop-i .cursor) (c .loop-i .inv .1) (c .args .alone) (c .pre .alone) in
     rw (p .1, p .2) (first-stays (about-light set) _ i _ (c .loop-i-test .taken) (c .loop-i .inv .2) (sym same ∙ c .in-Break-seated .ensures tt))
 
-pub moved-stand-requires : need.moved-stand-requires
-moved-stand-requires c κs =
+pub moved-cursor-requires : need.moved-cursor-requires
+moved-cursor-requires c κs =
     let set = c .args .set .now in
     let i = c .loop-i .i in
-    let same = light-told set i _ _ (c .weight-at-weight .ensures .is) (c .is-heavy .ensures) (c .if-is-heavy .left) (c .loop-i .stand) (c .loop-i .inv .1) (c .args .alone) (c .pre .alone) in
-    let ready = moved-ready set i _ _ (c .weight-at-weight .ensures .is) (c .is-heavy .ensures) (c .if-is-heavy .left) (c .loop-i .stand) (c .loop-i .inv .1) (c .args .alone) (c .pre .alone) (c .loop-i-test .taken) (c .pre .room) (c .loop-i .inv .2) (c .in-Continue-seated .seated) (c .in-Continue-seated .ensures tt .1) (sym same ∙ c .in-Continue-seated .ensures tt .0) in
+    let same = light-told set i _ _ (c .weight-at-weight .ensures .is) (c .is-heavy .ensures) (c .if-is-heavy .left) (c .loop-i .cursor) (c .loop-i .inv .1) (c .args .alone) (c .pre .alone) in
+    let ready = moved-ready set i _ _ (c .weight-at-weight .ensures .is) (c .is-heavy .ensures) (c .if-is-heavy .left) (c .loop-i .cursor) (c .loop-i .inv .1) (c .args .alone) (c .pre .alone) (c .loop-i-test .taken) (c .pre .room) (c .loop-i .inv .2) (c .in-Continue-seated .seated) (c .in-Continue-seated .ensures tt .1) (sym same ∙ c .in-Continue-seated .ensures tt .0) in
     (omega (arith, ready .0), omega (arith, ready .1))
 
 pub loop-i-again : need.loop-i-again
@@ -62,7 +62,7 @@ loop-i-again c =
           let told = c .is-heavy .ensures in
           let is = w .if-is-heavy .taken in (
             w .heavies-is ∙ (ap (λ n. n + 1) before ∙ sym (heavies-more set i _ _ weighs told is)),
-            w .stand-is ∙ (c .loop-i .inv .1 ∙ sym (stand-stays set i _ _ weighs told is)),
+            w .cursor-is ∙ (c .loop-i .inv .1 ∙ sym (cursor-stays set i _ _ weighs told is)),
             first-more (about-light set) i (c .loop-i .inv .2) (heavy-passes set i _ _ weighs told is),
             length-set _ _ _ ∙ c .loop-i .inv .3,
             seated-more set i (c .loop-i .pieces) (c .if-is-heavy .pieces) room (w .pieces-is ∙ heavy-placed set i _ _ weighs told is _ before) (c .loop-i .inv .4),
@@ -75,11 +75,11 @@ loop-i-again c =
           let alone = c .args .alone in
           let all = c .pre .alone in
           let seated = w .in-Continue-seated .ensures tt in
-          let fine = sym (light-told set i _ _ weighs told is-not (c .loop-i .stand) here alone all) ∙ seated .0 in (
+          let fine = sym (light-told set i _ _ weighs told is-not (c .loop-i .cursor) here alone all) ∙ seated .0 in (
             w .heavies-is ∙ (before ∙ sym (heavies-same set i _ _ weighs told is-not)),
-            w .stand-is ∙ (w .moved-stand .ensures ∙ stand-moves set i _ _ weighs told is-not (c .loop-i .stand) here alone all (w .in-Continue-seated .seated) (seated .1)),
+            w .cursor-is ∙ (w .moved-cursor .ensures ∙ cursor-moves set i _ _ weighs told is-not (c .loop-i .cursor) here alone all (w .in-Continue-seated .seated) (seated .1)),
             first-more (about-light set) i (c .loop-i .inv .2) fine,
             length-set _ _ _ ∙ c .loop-i .inv .3,
-            seated-more set i (c .loop-i .pieces) (c .if-is-heavy .pieces) room (w .pieces-is ∙ light-placed set i _ _ weighs told is-not (c .loop-i .stand) here alone all (w .in-Continue-seated .seated) (seated .1)) (c .loop-i .inv .4),
+            seated-more set i (c .loop-i .pieces) (c .if-is-heavy .pieces) room (w .pieces-is ∙ light-placed set i _ _ weighs told is-not (c .loop-i .cursor) here alone all (w .in-Continue-seated .seated) (seated .1)) (c .loop-i .inv .4),
           )
     ]

@@ -11,14 +11,14 @@ use refusal::Layer;
 use refusal::Refusal;
 use set::sizes::Sizes;
 
-// Where the next light model is tried: a worker, and the load that it has by then.
+// The worker that light models are being put on, and its load so far.
 #[derive(Clone, Copy)]
-pub(crate) struct Stand {
+pub(crate) struct Cursor {
     pub worker: u32,
     pub load: u32,
 }
 
-impl Stand {
+impl Cursor {
     // Where a light model goes, or a refusal where it does not fit on the last worker.
     // Workers 1 to `alone` are groups of one.
     pub(crate) fn seat(
@@ -62,19 +62,19 @@ impl Stand {
         })
     }
 
-    // Where the model after these pieces is tried.
-    pub(crate) fn moved(self, pieces: Pieces) -> Stand
+    // The worker that these pieces end on, and its load then.
+    pub(crate) fn moved(self, pieces: Pieces) -> Cursor
         requires { ⌜ moved self pieces .worker ≤ 32 ⌝ }
         requires { ⌜ moved self pieces .load ≤ 100800 ⌝ }
         ensures { λ r. ⌜ r ≡ moved self pieces ⌝ }
     {
         match pieces {
-            Pieces::Whole { worker, size } if worker == self.worker => Stand {
+            Pieces::Whole { worker, size } if worker == self.worker => Cursor {
                 worker,
                 load: self.load + size,
             },
-            Pieces::Whole { worker, size } => Stand { worker, load: size },
-            Pieces::Divided { worker, second, .. } => Stand {
+            Pieces::Whole { worker, size } => Cursor { worker, load: size },
+            Pieces::Divided { worker, second, .. } => Cursor {
                 worker: worker + 1,
                 load: second,
             },
