@@ -1,8 +1,8 @@
 ghost use mathlib.Core.Path.{_≡_};
-ghost use Prim.Native.Nat.{_-_};
+ghost use Prim.Native.Nat.{ℕ, _-_, _<_, _≤_};
 ghost use lib.ListN.{getD};
 ghost use Rattle.std.specs.Options.{Cases};
-ghost use Rattle.set.specs.Sets.{Model};
+ghost use Rattle.set.specs.Sets.{Model, workers-of};
 ghost use Rattle.plan.specs.Shares.{pieces-at, worker-of};
 ghost use Rattle.plan.specs.Groups.{Group, NoGroup};
 ghost use Rattle.plan.specs.Answers.{Worker, group-in, groups-in};
@@ -42,7 +42,8 @@ impl Plan {
 
     // The loads of all workers together; those behind the last worker are 0.
     pub fn all_loads(&self) -> [u32; WORKERS]
-        ensures { λ r. ⌜ r ≡ now (self .entry) .loads ⌝ }
+        ensures all { λ r. ⌜ r ≡ now (self .entry) .loads ⌝ }
+        ensures behind { λ r. ⌜ ((p : ℕ) → workers-of (now (self .entry) .set) ≤ p → p < 32 → getD r p 0 ≡ 0) ⌝ }
     {
         self.loads
     }
@@ -60,7 +61,7 @@ impl Plan {
 
     // The first and the last worker of a group.
     pub fn workers_in(&self, group: u32) -> Option<Workers>
-        ensures { λ r. ⌜ Cases r (NoGroup (group-in (now (self .entry))) (now (self .entry) .set .sizes .workers) group) (λ w. Group (group-in (now (self .entry))) (now (self .entry) .set .sizes .workers) group (w .first) (w .last)) ⌝ }
+        ensures { λ r. ⌜ Cases r (NoGroup (group-in (now (self .entry))) (workers-of (now (self .entry) .set)) group) (λ w. Group (group-in (now (self .entry))) (workers-of (now (self .entry) .set)) group (w .first) (w .last)) ⌝ }
     {
         workers_of(
             self.alone,
