@@ -52,23 +52,16 @@ impl Plan {
     pub fn group_count(&self) -> u32
         ensures { λ r. ⌜ r ≡ groups-in (now (self .entry)) ⌝ }
     {
-        worker_group(
-            self.alone,
-            self.set.sizes.group_size,
-            self.set.sizes.workers,
-        )
+        let sizes = self.set.sizes;
+        worker_group(self.alone, sizes.group_size, sizes.workers)
     }
 
     // The first and the last worker of a group.
     pub fn workers_in(&self, group: u32) -> Option<Workers>
         ensures { λ r. ⌜ Cases r (NoGroup (group-in (now (self .entry))) (workers-of (now (self .entry) .set)) group) (λ w. Group (group-in (now (self .entry))) (workers-of (now (self .entry) .set)) group (w .first) (w .last)) ⌝ }
     {
-        workers_of(
-            self.alone,
-            self.set.sizes.group_size,
-            self.set.sizes.workers,
-            group,
-        )
+        let sizes = self.set.sizes;
+        workers_of(self.alone, sizes.group_size, sizes.workers, group)
     }
 
     // The group that a model runs in.
