@@ -19,7 +19,7 @@ pub record Seated (set : Set) (n : ℕ) (pieces : List Pieces) : Type 0 where
   pub each : (i : ℕ) → i < n → pieces-at pieces i ≡ placed set i
   pub behind : (i : ℕ) → n ≤ i → pieces-at pieces i ≡ nowhere
 
--- the plan of the set, by the rules
+-- the plan of the set, by the rules; its loads are those of its pieces, as in every plan
 pub record Follows (set : Set) (plan : Plan) : Type 0 where
   pub same : plan .set ≡ set
   pub alone′ : plan .alone ≡ alone-of set

@@ -34,16 +34,16 @@ abbrev pub moved : Cursor → Pieces → Cursor
 moved s (Whole p size) = record { worker = p; load = cond (eqb p (s .worker)) (s .load + size) size }
 moved s (Divided p first second) = record { worker = p + 1; load = second }
 
--- a light model finds no room on the last worker
+-- a light model finds no room on the last worker: the place is its number
 abbrev pub no-room : ℕ → Complaint
 no-room model = record { number = number-of Full; layer = Placement; place = model }
 
--- the heavy models leave too few workers
+-- the heavy models leave too few workers: the place is how many they are
 abbrev pub too-heavy : ℕ → Complaint
 too-heavy count = record { number = number-of Heavy; layer = Placement; place = count }
 
 module _ (set : Set) where
-  -- a weight is heavy where groups are smaller than the rack, and it is more than k / (k + 1) of the grain
+  -- a weight is heavy where a group has fewer than all workers, and it is more than k / (k + 1) of the grain
   abbrev pub is-heavy : ℕ → Bool
   is-heavy weight = ltb (group-size-of set) (workers-of set) && ltb (group-size-of set * grain-of set) (weight * (group-size-of set + 1))
 

@@ -6,7 +6,7 @@ use native.Mathlib.Nat.{add-mul, one-mul, div-eq-of-lt-le, div-mul-le-self, lt-d
 use native.Mathlib.Omega.{arith}
 use lib.Dec.{leb}
 use Rattle.std.proofs.shelf.Tests.{cond-true, cond-false, le-leb, lt-leb, cases-lt}
-use Rattle.plan.specs.Groups.{group-of, Group, NoGroup}
+use Rattle.plan.specs.Groups.{group-of, Group, NoGroup, Counts}
 
 module _ (alone k : ℕ) (some : 1 ≤ k) where
   group-low : (p : ℕ) → p ≤ alone → group-of alone k p ≡ p
@@ -33,6 +33,10 @@ module _ (alone k : ℕ) (some : 1 ≤ k) where
       (λ (lt : alone < p). omega (arith, group-high p lt, group-high q (omega arith), quotient-rises (p - alone - 1) (q - alone - 1) (omega arith)))
       (λ (le : p ≤ alone). ⊎-elim (λ (lt : alone < q). omega (arith, group-low p le, group-high q lt)) (λ (low : q ≤ alone). omega (arith, group-low p le, group-low q low)) (cases-lt alone q))
       (cases-lt alone p)
+
+  low-within : (m g : ℕ) → g ≤ alone → g ≤ group-of alone k m → g ≤ m
+  low-within m g low top =
+      ⊎-elim (λ (lt : alone < m). omega arith) (λ (le : m ≤ alone). omega (arith, group-low m le)) (cases-lt alone m)
 
   -- the groups are numbered from 1 up to that of the last worker
   pub no-group : (m g : ℕ) → (g < 1) ⊎ (group-of alone k m < g) → NoGroup (group-of alone k) m g
@@ -86,3 +90,13 @@ module _ (alone k : ℕ) (some : 1 ≤ k) where
       let here : (p - alone - 1) / k ≡ j = quotient (p - alone - 1) j (omega arith) (omega arith) in
       let there : (p + 1 - alone - 1) / k ≡ j = ap (λ x. x / k) (omega arith) in
       omega (arith, group-high p high, group-high (p + 1) (omega arith))
+
+  -- every group up to the last worker's has a worker
+  pub counts : (m count : ℕ) → 1 ≤ m → count ≡ group-of alone k m → Counts (group-of alone k) m count
+  counts m count some-m is = record {
+    every = λ p from-one in-m. (group-some p from-one, omega (arith, group-rises p m in-m));
+    each = λ g from-one top. ⊎-elim
+        (λ (high : alone < g). (first-of g, (omega arith, first-within m g high (omega arith), group-inside g (first-of g) high (omega arith) (omega arith))))
+        (λ (low : g ≤ alone). (g, (from-one, low-within m g low (omega arith), group-low g low)))
+        (cases-lt alone g);
+  }

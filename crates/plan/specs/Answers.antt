@@ -12,7 +12,3 @@ pub record Worker (plan : Plan) (worker : ℕ) : Type 0 where
 -- the group of worker p
 abbrev pub group-in : Plan → ℕ → ℕ
 group-in plan p = group-of (plan .alone) (group-size-of (plan .set)) p
-
--- groups are numbered from 1 in the workers' order, so there are as many as the last worker's group says
-abbrev pub groups-in : Plan → ℕ
-groups-in plan = group-in plan (workers-of (plan .set))

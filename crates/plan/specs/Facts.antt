@@ -14,14 +14,14 @@ module _ (set : Set) (pieces : List Pieces) where
   abbrev pub Loaded : List ℕ → Type 0
   Loaded loads = (p : ℕ) → p < 32 → (getD loads p 0 ≡ carried (pieces-at pieces) (p + 1) (models-of set)) × (getD loads p 0 ≤ grain-of set)
 
-  -- 2. a model is on one worker or on two neighbours, in one group, and its pieces add up to its weight
+  -- 2. a model is on one worker or on two neighbours, and its pieces add up to its weight; both workers are in one group
   abbrev pub Shared : Type 0
   Shared = (i : ℕ) → i < models-of set → (1 ≤ worker-of (pieces-at pieces i)) × (last-of (pieces-at pieces i) ≤ workers-of set) × (first-of (pieces-at pieces i) + second-of (pieces-at pieces i) ≡ weight-of set i)
 
   abbrev pub Grouped : ℕ → Type 0
   Grouped alone = (i : ℕ) → i < models-of set → group-of alone (group-size-of set) (worker-of (pieces-at pieces i)) ≡ group-of alone (group-size-of set) (last-of (pieces-at pieces i))
 
-  -- 3. a worker has at most one first and one second piece
+  -- 3. a worker has at most one first and one second piece; the second is always on the next worker, so one follows from the other
   abbrev pub BothDivided : ℕ → ℕ → Type 0
   BothDivided i j = (i < models-of set) × (j < models-of set) × (0 < second-of (pieces-at pieces i)) × (0 < second-of (pieces-at pieces j))
 

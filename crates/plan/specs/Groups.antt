@@ -19,3 +19,8 @@ pub record Group (group : ℕ → ℕ) (m g first last : ℕ) : Type 0 where
 -- none of m workers is in group g
 abbrev pub NoGroup : (ℕ → ℕ) → ℕ → ℕ → Type 0
 NoGroup group m g = (p : ℕ) → 1 ≤ p → p ≤ m → group p ≡ g → ⊥
+
+-- m workers stand in so many groups: each worker is in one of them, and each of them has a worker
+pub record Counts (group : ℕ → ℕ) (m count : ℕ) : Type 0 where
+  pub every : (p : ℕ) → 1 ≤ p → p ≤ m → (1 ≤ group p) × (group p ≤ count)
+  pub each : (g : ℕ) → 1 ≤ g → g ≤ count → (p : ℕ) × ((1 ≤ p) × (p ≤ m) × (group p ≡ g))

@@ -1,7 +1,7 @@
 ghost use mathlib.Core.Path.{_≡_};
 ghost use Prim.Native.Nat.{_≤_};
 ghost use Rattle.std.specs.Options.{Cases};
-ghost use Rattle.plan.specs.Groups.{group-of, Group, NoGroup};
+ghost use Rattle.plan.specs.Groups.{group-of, Group, NoGroup, Counts};
 
 // The workers of a group, from the first to the last.
 #[derive(Clone, Copy, PartialEq, Eq, Debug)]
@@ -20,6 +20,15 @@ pub(crate) fn worker_group(alone: u32, group_size: u32, worker: u32) -> u32
     } else {
         alone + 1 + (worker - alone - 1) / group_size
     }
+}
+
+// How many groups so many workers stand in: groups are numbered from 1 in the workers' order, so the last worker's group says.
+pub(crate) fn count_groups(alone: u32, group_size: u32, workers: u32) -> u32
+    requires { ⌜ 1 ≤ «group_size» ⌝ }
+    requires { ⌜ 1 ≤ workers ⌝ }
+    ensures { λ r. ⌜ Counts (group-of alone «group_size») workers r ⌝ }
+{
+    worker_group(alone, group_size, workers)
 }
 
 // The workers of a group, if there is such a group among so many workers.

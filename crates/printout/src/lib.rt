@@ -30,8 +30,17 @@ pub fn print_file(bytes: &[u8], text: &mut [u8]) -> Result<usize, Refusal>
             place: 3,
         });
     }
+    Ok(print_into(bytes, text))
+}
+
+// Prints into memory that is large enough.
+fn print_into(bytes: &[u8], text: &mut [u8]) -> usize
+    requires { ⌜ 16384 ≤ length (now text) ⌝ }
+    ensures prints { λ n. ⌜ Printed (now (bytes .entry)) (now (text .entry)) (now (text .exit)) n ⌝ }
+    ensures bound { λ n. ⌜ n ≤ length (now (text .exit)) ⌝ }
+{
     let placed = place_file(bytes);
     let mut page = Page::new(text);
     text_lines(&mut page, placed);
-    Ok(page.len())
+    page.len()
 }

@@ -13,7 +13,8 @@ use Rattle.refusal.specs.declared.Layer.the-variants.{Set}
 abbrev pub within : ℕ → ℕ → ℕ → Bool
 within low high x = leb low x && leb x high
 
--- a size that is outside its range: the place is 1 for models, 2 workers, 3 group size, 4 grain
+-- a size that is outside its range: the place is 1 for models, 2 workers, 3 group size, 4 grain;
+-- place 1 is also for costs and periods that differ in number
 abbrev pub bad-size : ℕ → Complaint
 bad-size place = record { number = number-of Size; layer = Set; place = place }
 

@@ -59,7 +59,7 @@ pub record Model (set : Set) (model : ℕ) : Type 0 where
   pub first : 1 ≤ model
   pub last : model ≤ models-of set
 
--- w is the weight of a model: over each period it adds up to just the parts of a run
+-- w is the weight of a model: over each period it adds up to just the parts of a run, and one worker can give it
 pub record Weighs (set : Set) (i w : ℕ) : Type 0 where
   pub is : w ≡ weight-of set i
   pub exact : w * period-of set i ≡ parts-of set i

@@ -18,7 +18,7 @@ use Rattle.set.specs.Sets.{about, MadeOf}
 use Rattle.set.specs.Limits.{about-sizes, about-models}
 use Rattle.setfile.specs.Format.{file-of, word-at, words-at}
 
--- fewer bytes than there should be, and more than that
+-- fewer bytes than there should be: the place is how many were given; and more: the place is how many there should be
 abbrev pub too-short : ℕ → Complaint
 too-short given = record { number = number-of Short; layer = File; place = given }
 

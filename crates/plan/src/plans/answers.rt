@@ -1,13 +1,14 @@
 ghost use mathlib.Core.Path.{_≡_};
-ghost use Prim.Native.Nat.{ℕ, _-_, _<_, _≤_};
+ghost use Prim.Native.Nat.{_-_, _<_};
 ghost use lib.ListN.{getD};
 ghost use Rattle.std.specs.Options.{Cases};
 ghost use Rattle.set.specs.Sets.{Model, workers-of};
 ghost use Rattle.plan.specs.Shares.{pieces-at, worker-of};
-ghost use Rattle.plan.specs.Groups.{Group, NoGroup};
-ghost use Rattle.plan.specs.Answers.{Worker, group-in, groups-in};
+ghost use Rattle.plan.specs.Groups.{Group, NoGroup, Counts};
+ghost use Rattle.plan.specs.Answers.{Worker, group-in};
 use super::Plan;
 use crate::groups::Workers;
+use crate::groups::count_groups;
 use crate::groups::worker_group;
 use crate::groups::workers_of;
 use crate::pieces::Pieces;
@@ -40,20 +41,19 @@ impl Plan {
         Some(self.loads[worker as usize - 1])
     }
 
-    // The loads of all workers together; those behind the last worker are 0.
+    // The loads of all workers together, as one value.
     pub fn all_loads(&self) -> [u32; WORKERS]
-        ensures all { λ r. ⌜ r ≡ now (self .entry) .loads ⌝ }
-        ensures behind { λ r. ⌜ ((p : ℕ) → workers-of (now (self .entry) .set) ≤ p → p < 32 → getD r p 0 ≡ 0) ⌝ }
+        ensures { λ r. ⌜ r ≡ now (self .entry) .loads ⌝ }
     {
         self.loads
     }
 
     // How many groups there are.
     pub fn group_count(&self) -> u32
-        ensures { λ r. ⌜ r ≡ groups-in (now (self .entry)) ⌝ }
+        ensures { λ r. ⌜ Counts (group-in (now (self .entry))) (workers-of (now (self .entry) .set)) r ⌝ }
     {
         let sizes = self.set.sizes;
-        worker_group(self.alone, sizes.group_size, sizes.workers)
+        count_groups(self.alone, sizes.group_size, sizes.workers)
     }
 
     // The first and the last worker of a group.

@@ -1,7 +1,7 @@
 ghost use mathlib.Core.Path.{_≡_};
-ghost use Prim.Native.Nat.{_-_};
+ghost use Prim.Native.Nat.{_-_, _<_};
 ghost use Rattle.std.specs.Options.{Cases};
-ghost use Rattle.set.specs.Sets.{Model, Weighs, parts-of};
+ghost use Rattle.set.specs.Sets.{Model, Weighs, models-of, parts-of};
 use super::Set;
 
 impl Set {
@@ -20,7 +20,15 @@ impl Set {
         ensures { λ r. ⌜ Cases r (Model (now (self .entry)) model → ⊥) (λ w. Model (now (self .entry)) model × Weighs (now (self .entry)) (model - 1) w) ⌝ }
     {
         let i = self.slot(model)?;
-        Some(self.costs[i] * (self.sizes.grain / self.periods[i]))
+        Some(self.weight_in(i))
+    }
+
+    // The weight of the model in a slot.
+    fn weight_in(&self, i: usize) -> u32
+        requires { ⌜ i < models-of (now self) ⌝ }
+        ensures { λ r. ⌜ Weighs (now (self .entry)) i r ⌝ }
+    {
+        self.costs[i] * (self.sizes.grain / self.periods[i])
     }
 
     // The parts that each run of a model needs.

@@ -3,11 +3,10 @@ use mathlib.Core.List.{[], _++_}
 use native.Mathlib.Omega.{arith}
 use borrow.Author.Needs.{needs}
 use lib.ListN.{length, drop}
-use Rattle.std.proofs.shelf.Tests.{cond-true, le-leb}
 use Rattle.printout.specs.Texts.{text-of}
 use Rattle.printout.proofs.Pages.{Holds, holds-none, holds-append, holds-fits}
 use Rattle.printout.proofs.Sizes.{text-most}
-use Rattle.printout.proofs.print_file.Needs as need
+use Rattle.printout.proofs.print_into.Needs as need
 
 pub text-lines-requires : need.text-lines-requires
 text-lines-requires c κs =
@@ -24,14 +23,11 @@ returns c =
     let all : Holds (text-of placed) old page = holds-append [] (text-of placed) old (c .new-page .result) page none (c .text-lines .ensures .appends) in
     let size : c .len .result ≡ length (text-of placed) = c .len .ensures ∙ all .all in
     record {
-      prints = (
-        cond-true _ _ _ (le-leb 16384 (length old) (c .if-text-lt-TEXT-BYTES .left)),
-        record {
-          placed = placed;
-          places = c .place-file-placed .ensures .places;
-          size = size;
-          text = (search needs) ∙ (all .front ∙ ap (λ n. text-of placed ++ drop n old) (sym size));
-        },
-      );
-      lent = let most = text-most placed in omega (arith, size);
+      prints = record {
+        placed = placed;
+        places = c .place-file-placed .ensures .places;
+        size = size;
+        text = (search needs) ∙ (all .front ∙ ap (λ n. text-of placed ++ drop n old) (sym size));
+      };
+      bound = let most = text-most placed in omega (arith, size);
     }

@@ -4,7 +4,7 @@ use lib.ListN.{getD}
 use Rattle.std.specs.declared.option.Option.the-variants.{None}
 use Rattle.refusal.specs.Refusals.{first-below}
 use Rattle.set.specs.Limits.{about-model}
-use Rattle.set.proofs.figures.Figures.check.Given as given
+use Rattle.set.proofs.figures.Figures.check_models.Given as given
 
 -- no model so far is at fault
 abbrev pub Inv-loop-i : given.InvT-loop-i
