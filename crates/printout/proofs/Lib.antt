@@ -5,3 +5,4 @@ pub mod Pages
 pub mod Words
 pub mod Counts
 pub mod Sizes
+pub mod Ones

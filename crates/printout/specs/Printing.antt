@@ -19,9 +19,10 @@ use Rattle.printout.specs.Texts.{text-of}
 abbrev pub about-memory : ℕ → Option Complaint
 about-memory room = check (leb 16384 room) (record { number = number-of Memory; layer = Running; place = 3 }) None
 
--- the first n bytes are the text of what placing the file gives, and the others stay as they were
+-- the first n bytes are the text of what placing the file gives, which is one text, and the others stay as they were
 pub record Printed (bytes before after : List ℕ) (n : ℕ) : Type 0 where
   pub placed : Result Plan Refusal
   pub places : PlacesFile bytes placed
+  pub only : (other : Result Plan Refusal) → PlacesFile bytes other → text-of other ≡ text-of placed
   pub size : n ≡ length (text-of placed)
   pub text : after ≡ text-of placed ++ drop n before

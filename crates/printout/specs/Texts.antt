@@ -9,7 +9,7 @@ use Rattle.std.specs.Written.{decimal}
 use Rattle.std.specs.declared.result.Result.{Result}
 use Rattle.std.specs.declared.result.Result.the-variants.{Ok, Err}
 use Rattle.refusal.specs.declared.Refusal.{Refusal}
-use Rattle.refusal.specs.Refusals.{number-of, word-of}
+use Rattle.refusal.specs.Refusals.{Complaint, told, word-of}
 use Rattle.plan.specs.declared.pieces.Pieces.{Pieces}
 use Rattle.plan.specs.declared.pieces.Pieces.the-variants.{Whole, Divided}
 use Rattle.plan.specs.declared.plans.Plan.{Plan}
@@ -17,8 +17,11 @@ use Rattle.plan.specs.Shares.{pieces-at}
 use Rattle.printout.specs.Lines.{line-of}
 
 -- refused, number, layer, place
+abbrev pub complaint-text : Complaint → List ℕ
+complaint-text c = codes "refused " ++ (decimal (c .number) ++ (codes " " ++ (word-of (c .layer) ++ line-of [] (c .place ∷ []))))
+
 abbrev pub refusal-text : Refusal → List ℕ
-refusal-text e = codes "refused " ++ (decimal (number-of (e .fault)) ++ (codes " " ++ (word-of (e .layer) ++ line-of [] (e .place ∷ []))))
+refusal-text e = complaint-text (told e)
 
 -- piece, model, worker, size: one line, or two for a divided model
 abbrev pub pieces-text : ℕ → Pieces → List ℕ

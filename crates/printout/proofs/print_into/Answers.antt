@@ -5,6 +5,7 @@ use borrow.Author.Needs.{needs}
 use lib.ListN.{length, drop}
 use Rattle.printout.specs.Texts.{text-of}
 use Rattle.printout.proofs.Pages.{Holds, holds-none, holds-append, holds-fits}
+use Rattle.printout.proofs.Ones.{one-text}
 use Rattle.printout.proofs.Sizes.{text-most}
 use Rattle.printout.proofs.print_into.Needs as need
 
@@ -26,6 +27,7 @@ returns c =
       prints = record {
         placed = placed;
         places = c .place-file-placed .ensures .places;
+        only = λ other h. one-text (c .args .bytes .now) other placed h (c .place-file-placed .ensures .places);
         size = size;
         text = (search needs) ∙ (all .front ∙ ap (λ n. text-of placed ++ drop n old) (sym size));
       };
