@@ -1,7 +1,8 @@
 """A second implementation of reading, placing and printing a set file, to compare with.
 
 Run it with a set file on standard input: it prints what the program `print` should print.
-It shares no code with the proved crates and is written from docs/ alone.
+It shares no code with the proved crates, but its author wrote those too: it guards against slips, not against
+a rule that was misunderstood.
 """
 import struct
 import sys
