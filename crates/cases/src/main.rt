@@ -1,4 +1,6 @@
 // Prints many set files: each line of standard input is one, in hexadecimal digits.
+#![tactic(auto)]
+
 use anyhow::anyhow;
 use printout::{TEXT_BYTES, print_file};
 use std::alloc::{AllocError, Global};

@@ -1,4 +1,6 @@
 // What an order of things is: which of two things comes first.
+#![tactic(auto)]
+
 ghost use Rattle.std.specs.Prelude.{◌≡◌, ℕ, Bool};
 ghost use Rattle.order.specs.Laws.{NeverItself, Carries, AbsenceCarries, OneOfTwo, EarlierFirst};
 

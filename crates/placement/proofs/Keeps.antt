@@ -1,5 +1,5 @@
 -- The four facts of a plan, from the rules.
-use Rattle.std.proofs.Common.{◌≡◌, ℕ, zero, suc, ◌+◌, ◌-◌, ◌%◌, ◌<◌, ◌≤◌, true, false, not, ◌⊎◌, None, refl, ap, inl, inr, ⊎_elim, add-zero, arith}
+use Rattle.std.proofs.Common.{◌≡◌, ℕ, zero, suc, ◌+◌, ◌-◌, ◌%◌, ◌<◌, ◌≤◌, true, false, ◌⊎◌, None, refl, ap, inl, inr, ⊎_elim, add-zero, arith}
 use Rattle.std.proofs.lemmas.Bool.{cases_eq, cases_order, cond-false, leb-true, eqb-true, eqb-false, ltb-true, or_cases, and_parts, not-true, both_ways}
 use Rattle.refusal.specs.Refusals.{first_below}
 use Rattle.refusal.proofs.Firsts.{both_none, passed}

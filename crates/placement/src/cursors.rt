@@ -59,8 +59,8 @@ impl Cursor {
 
     // The worker that these pieces end on, and its load then.
     pub(crate) fn moved(self, pieces: Pieces) -> Cursor
-        requires pieces_bound { (moved self pieces).worker ≤ 32 }
-        requires pieces_bound_2 { (moved self pieces).load ≤ 100800 }
+        requires worker { (moved self pieces).worker ≤ 32 }
+        requires load { (moved self pieces).load ≤ 100800 }
         ensures { result ≡ moved self pieces }
     {
         match pieces {

@@ -1,4 +1,6 @@
 // Placement: from a checked set, or a set file, to a plan.
+#![tactic(auto)]
+
 mod cursors;
 mod files;
 mod places;

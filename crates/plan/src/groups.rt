@@ -22,8 +22,8 @@ pub(crate) fn worker_group(alone: u32, group_size: u32, worker: u32) -> u32
 
 // How many groups so many workers stand in: groups are numbered from 1 in the workers' order, so the last worker's group says.
 pub(crate) fn count_groups(alone: u32, group_size: u32, workers: u32) -> u32
-    requires le_group_size { 1 ≤ group_size }
-    requires le_workers { 1 ≤ workers }
+    requires size { 1 ≤ group_size }
+    requires some { 1 ≤ workers }
     ensures { Counts (group_of alone group_size) workers result }
 {
     worker_group(alone, group_size, workers)
@@ -31,9 +31,9 @@ pub(crate) fn count_groups(alone: u32, group_size: u32, workers: u32) -> u32
 
 // The workers of a group, if there is such a group among so many workers.
 pub(crate) fn workers_of(alone: u32, group_size: u32, workers: u32, group: u32) -> Option<Workers>
-    requires le_group_size { 1 ≤ group_size }
-    requires group_size_le_workers { group_size ≤ workers }
-    requires workers_bound { workers ≤ 32 }
+    requires size { 1 ≤ group_size }
+    requires within { group_size ≤ workers }
+    requires few { workers ≤ 32 }
     ensures { MatchOption result (NoGroup (group_of alone group_size) workers group) (λ w. Group (group_of alone group_size) workers group w.first w.last) }
 {
     let groups = worker_group(alone, group_size, workers);

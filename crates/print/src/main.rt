@@ -1,4 +1,6 @@
 // Prints the plan of the set file on standard input, or the refusal of it.
+#![tactic(auto)]
+
 use anyhow::anyhow;
 use printout::{TEXT_BYTES, print_file};
 use std::io::{Read, Write};

@@ -1,4 +1,6 @@
 // What is printed of a set file, as text in memory that the caller lends.
+#![tactic(auto)]
+
 ghost use Rattle.std.specs.Prelude.{◌≡◌, ◌≤◌, length, MatchResult};
 ghost use Rattle.refusal.specs.Refusals.{Answers};
 ghost use Rattle.printout.specs.Printing.{about_memory, Printed};

@@ -13,8 +13,8 @@ impl<'a, T: Copy> Queue<'a, T> {
         ensures drains { Drained result self.old self.new out.old out.new }
         ensures left { count_of self.new ≡ count_of self.old - length out.old }
         ensures all { count_of self.old ≤ length out.old → IsPermutation (held self.old) (take result out.new) }
-        ensures served { Ordered (precedes order.now) self.old → Served (precedes order.now) (take result out.new) (held self.new) }
-        ensures keeps { Keeps (precedes order.now) self.old self.new }
+        ensures served { Ordered (O.precedes order.now) self.old → Served (O.precedes order.now) (take result out.new) (held self.new) }
+        ensures keeps { Keeps (O.precedes order.now) self.old self.new }
         ensures lent { self.new.slots.ghost_name ≡ self.old.slots.ghost_name }
     {
         let moved = self.count.min(out.len());
@@ -28,8 +28,8 @@ impl<'a, T: Copy> Queue<'a, T> {
         requires room { n ≤ length out.old }
         ensures drains { Drained n self.old self.new out.old out.new }
         ensures all { count_of self.old ≤ n → IsPermutation (held self.old) (take n out.new) }
-        ensures served { Ordered (precedes order.now) self.old → Served (precedes order.now) (take n out.new) (held self.new) }
-        ensures keeps { Keeps (precedes order.now) self.old self.new }
+        ensures served { Ordered (O.precedes order.now) self.old → Served (O.precedes order.now) (take n out.new) (held self.new) }
+        ensures keeps { Keeps (O.precedes order.now) self.old self.new }
         ensures lent { self.new.slots.ghost_name ≡ self.old.slots.ghost_name }
     {
         for i in 0..n {

@@ -1,4 +1,6 @@
 // A queue over lent slots, from which what comes first is taken first.
+#![tactic(auto)]
+
 ghost use Rattle.std.specs.Prelude.{◌≤◌, length};
 
 mod drain;

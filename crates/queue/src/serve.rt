@@ -30,7 +30,7 @@ impl<'a, T: Copy> Queue<'a, T> {
     pub fn put<O: Order<Item = T>>(&mut self, order: &O, thing: T) -> Result<(), Full>
         ensures puts { MatchResult result (λ _. OneMore thing self.old self.new) (λ _. (count_of self.old ≡ length (slots_of self.old)) × (self.new ≡ self.old)) }
         ensures stays { Stays self.old self.new }
-        ensures keeps { Keeps (precedes order.now) self.old self.new }
+        ensures keeps { Keeps (O.precedes order.now) self.old self.new }
         ensures lent { self.new.slots.ghost_name ≡ self.old.slots.ghost_name }
     {
         let count = self.count;
@@ -45,9 +45,9 @@ impl<'a, T: Copy> Queue<'a, T> {
     // Takes out what no other thing that it holds precedes, unless it holds nothing.
     pub fn take<O: Order<Item = T>>(&mut self, order: &O) -> Option<T>
         ensures takes { MatchOption result ((count_of self.old ≡ 0) × (self.new ≡ self.old)) (λ thing. OneMore thing self.new self.old) }
-        ensures first { Ordered (precedes order.now) self.old → IfSome result (Unpreceded (precedes order.now) (held self.old)) }
+        ensures first { Ordered (O.precedes order.now) self.old → IfSome result (Unpreceded (O.precedes order.now) (held self.old)) }
         ensures stays { Stays self.old self.new }
-        ensures keeps { Keeps (precedes order.now) self.old self.new }
+        ensures keeps { Keeps (O.precedes order.now) self.old self.new }
         ensures lent { self.new.slots.ghost_name ≡ self.old.slots.ghost_name }
     {
         if self.count == 0 {
@@ -60,9 +60,9 @@ impl<'a, T: Copy> Queue<'a, T> {
     pub(crate) fn take_first<O: Order<Item = T>>(&mut self, order: &O) -> T
         requires { 0 < count_of self.old }
         ensures takes { OneMore result self.new self.old }
-        ensures first { Ordered (precedes order.now) self.old → Unpreceded (precedes order.now) (held self.old) result }
+        ensures first { Ordered (O.precedes order.now) self.old → Unpreceded (O.precedes order.now) (held self.old) result }
         ensures stays { Stays self.old self.new }
-        ensures keeps { Keeps (precedes order.now) self.old self.new }
+        ensures keeps { Keeps (O.precedes order.now) self.old self.new }
         ensures lent { self.new.slots.ghost_name ≡ self.old.slots.ghost_name }
     {
         let left = self.count - 1;

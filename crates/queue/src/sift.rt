@@ -15,7 +15,7 @@ impl<'a, T: Copy> Queue<'a, T> {
         ensures room { length (slots_of self.new) ≡ length (slots_of self.old) }
         ensures holds { IsPermutation (thing ∷ held self.old) (take (count_of self.old + 1) (slots_of self.new)) }
         ensures behind { drop (count_of self.old + 1) (slots_of self.new) ≡ drop (count_of self.old + 1) (slots_of self.old) }
-        ensures ordered { Heaped (precedes order.now) (slots_of self.old) (count_of self.old) → Heaped (precedes order.now) (slots_of self.new) (count_of self.old + 1) }
+        ensures ordered { Heaped (O.precedes order.now) (slots_of self.old) (count_of self.old) → Heaped (O.precedes order.now) (slots_of self.new) (count_of self.old + 1) }
         ensures lent { self.new.slots.ghost_name ≡ self.old.slots.ghost_name }
     {
         let mut hole = self.count;
@@ -38,7 +38,7 @@ impl<'a, T: Copy> Queue<'a, T> {
         ensures room { length (slots_of self.new) ≡ length (slots_of self.old) }
         ensures holds { IsPermutation (take left (slice_set (slots_of self.old) 0 thing)) (take left (slots_of self.new)) }
         ensures behind { drop left (slots_of self.new) ≡ drop left (slice_set (slots_of self.old) 0 thing) }
-        ensures ordered { Heaped (precedes order.now) (slots_of self.old) left → Heaped (precedes order.now) (slots_of self.new) left }
+        ensures ordered { Heaped (O.precedes order.now) (slots_of self.old) left → Heaped (O.precedes order.now) (slots_of self.new) left }
         ensures lent { self.new.slots.ghost_name ≡ self.old.slots.ghost_name }
     {
         let mut hole = 0;

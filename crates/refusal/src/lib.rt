@@ -1,4 +1,6 @@
 // Every refusal of every layer: what was wrong, which layer found it, and where.
+#![tactic(auto)]
+
 ghost use Rattle.std.specs.Prelude.{◌≡◌};
 ghost use Rattle.refusal.specs.Refusals.{number_of, word_of};
 

@@ -1,5 +1,5 @@
 -- What the checks of a set leave to be true.
-use Rattle.std.proofs.Common.{◌≡◌, ℕ, ◌+◌, ◌-◌, ◌%◌, ◌<◌, ◌≤◌, ◌⊎◌, List, length, get_or, replicate, None, sym, refl, ◌∙◌, ⊎_elim, arith}
+use Rattle.std.proofs.Common.{◌≡◌, ℕ, ◌+◌, ◌-◌, ◌%◌, ◌<◌, ◌≤◌, List, length, get_or, replicate, None, sym, refl, ◌∙◌, ⊎_elim, arith}
 use Rattle.std.proofs.lemmas.Bool.{eq-eqb, cases_lt}
 use Rattle.std.proofs.lemmas.Bool.Decides.{nat_tests}
 use Rattle.std.proofs.lemmas.List.{get_or_append_left, get_or-append_right, get_or_past, length-append, length-replicate}
@@ -26,21 +26,25 @@ slot_is xs i =
 full : (xs : List ℕ) → length xs ≤ 64 → length (slots_of xs) ≡ 64
 full xs few = simp (length-append, length-replicate) (omega arith)
 
-abbrev Lawful : ℕ → ℕ → List ℕ → List ℕ → Type 0
-Lawful n grain costs periods = Timed n grain periods × (Costed n costs periods × (Clear n costs × (Clear n periods × ((length costs ≡ 64) × ((length periods ≡ 64) × Unit {0})))))
+-- what the slots of a set keep to
+pub record Lawful (n grain : ℕ) (costs periods : List ℕ) : Type 0 where
+  pub timed : Timed n grain periods
+  pub costed : Costed n costs periods
+  pub clear_costs : Clear n costs
+  pub clear_periods : Clear n periods
+  pub full_costs : length costs ≡ 64
+  pub full_periods : length periods ≡ 64
 
 -- slots that hold figures without a fault make a set
 lawful : (grain : ℕ) (costs periods : List ℕ) → length costs ≤ 64 → length costs ≡ length periods → about_models grain costs periods ≡ None → Lawful (length costs) grain (slots_of costs) (slots_of periods)
-lawful grain costs periods few level none = (
-  (λ i h. rw (slot_is periods i) (sound i h).0),
-  (
-    (λ i h. rw (slot_is costs i, slot_is periods i) (sound i h).1),
-    (
-      (λ i h. slot_is costs i ∙ get_or_past costs i 0 h),
-      ((λ i h. slot_is periods i ∙ get_or_past periods i 0 (omega arith)), (full costs few, (full periods (omega arith), tt))),
-    ),
-  ),
-)
+lawful grain costs periods few level none = record {
+  timed = λ i h. rw (slot_is periods i) (sound i h).0;
+  costed = λ i h. rw (slot_is costs i, slot_is periods i) (sound i h).1;
+  clear_costs = λ i h. slot_is costs i ∙ get_or_past costs i 0 h;
+  clear_periods = λ i h. slot_is periods i ∙ get_or_past periods i 0 (omega arith);
+  full_costs = full costs few;
+  full_periods = full periods (omega arith);
+}
   where
     sound : (i : ℕ) → i < length costs → ((1 ≤ get_or periods i 0) × (grain % get_or periods i 0 ≡ 0)) × ((1 ≤ get_or costs i 0) × (get_or costs i 0 ≤ get_or periods i 0))
     sound i h =

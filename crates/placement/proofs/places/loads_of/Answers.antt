@@ -7,8 +7,8 @@ use Rattle.placement.proofs.places.loads_of.Goals as goal
 pub loop-i-init : goal.loop-i-init
 loop-i-init c p h = getD_blank 32 p 0
 
-pub add-pieces-requires : goal.add-pieces-requires
-add-pieces-requires c =
+pub add_pieces-requires : goal.add_pieces-requires
+add_pieces-requires c =
     let pieces = pieces_at c.args.pieces.now in
     let i = c.loop-i.i in
     record {
@@ -19,4 +19,4 @@ add-pieces-requires c =
 
 pub loop-i-preserved : goal.loop-i-preserved
 loop-i-preserved c p h =
-    omega (arith, c.add-pieces.ensures p h, c.loop-i.invariant p h, carried_more (pieces_at c.args.pieces.now) (p + 1) c.loop-i.i)
+    omega (arith, c.add_pieces.ensures p h, c.loop-i.invariant p h, carried_more (pieces_at c.args.pieces.now) (p + 1) c.loop-i.i)

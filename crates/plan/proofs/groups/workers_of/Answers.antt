@@ -1,11 +1,11 @@
-use Rattle.std.proofs.Common.{◌⊎◌, inl, inr, ⊎_elim, arith}
+use Rattle.std.proofs.Common.{inl, inr, ⊎_elim, arith}
 use Rattle.plan.proofs.Spans.{no_group, group_among}
 use Rattle.plan.proofs.groups.workers_of.Goals as goal
 
 pub returns-then-group-lt1 : goal.returns-then-group-lt1
 returns-then-group-lt1 c =
-    no_group c.args.alone c.args.group-size (omega arith) c.args.workers c.args.group
+    no_group c.args.alone c.args.group_size (omega arith) c.args.workers c.args.group
     (⊎_elim (λ low. inl low) (λ high. inr (omega (arith, high.1))) c.then-group-lt1.either)
 
 pub returns : goal.returns
-returns c = group_among c.args.alone c.args.group-size (omega arith) c.args.workers c.args.group _ (omega arith) (omega arith) c.min-last.ensures
+returns c = group_among c.args.alone c.args.group_size (omega arith) c.args.workers c.args.group _ (omega arith) (omega arith) c.min-last.ensures

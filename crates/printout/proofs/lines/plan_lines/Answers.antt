@@ -18,45 +18,45 @@ loads_left plan = loads_text plan ++ models_left plan
 pub line-requires : goal.line-requires
 line-requires c = fits_first c.args.page.now (sizes_text c.args.plan.now) (loads_left c.args.plan.now) c.requires
 
-pub load-lines-requires : goal.load-lines-requires
-load-lines-requires c =
+pub load_lines-requires : goal.load_lines-requires
+load_lines-requires c =
     let plan = c.args.plan.now in
     let q = c.line.new.self in
     fits_first q (loads_text plan) (models_left plan)
     (fits_rest c.args.page.now q (sizes_text plan) (loads_left plan) c.requires c.line.ensures.appends)
 
-pub model-lines-requires : goal.model-lines-requires
-model-lines-requires c =
+pub model_lines-requires : goal.model_lines-requires
+model_lines-requires c =
     let plan = c.args.plan.now in
     let q = c.line.new.self in
-    let r = c.load-lines.new.page in
+    let r = c.load_lines.new.page in
     fits_first r (models_text plan) end_text
     (fits_rest q r (loads_text plan) (models_left plan)
-    (fits_rest c.args.page.now q (sizes_text plan) (loads_left plan) c.requires c.line.ensures.appends) c.load-lines.ensures.appends)
+    (fits_rest c.args.page.now q (sizes_text plan) (loads_left plan) c.requires c.line.ensures.appends) c.load_lines.ensures.appends)
 
 pub line-requires-2 : goal.line-requires-2
 line-requires-2 c =
     let plan = c.args.plan.now in
     let q = c.line.new.self in
-    let r = c.load-lines.new.page in
-    let s = c.model-lines.new.page in
+    let r = c.load_lines.new.page in
+    let s = c.model_lines.new.page in
     fits_rest r s (models_text plan) end_text
     (fits_rest q r (loads_text plan) (models_left plan)
-    (fits_rest c.args.page.now q (sizes_text plan) (loads_left plan) c.requires c.line.ensures.appends) c.load-lines.ensures.appends)
-    c.model-lines.ensures.appends
+    (fits_rest c.args.page.now q (sizes_text plan) (loads_left plan) c.requires c.line.ensures.appends) c.load_lines.ensures.appends)
+    c.model_lines.ensures.appends
 
 pub returns : goal.returns
 returns c =
     let plan = c.args.plan.now in
     let p = c.args.page.now in
     let q = c.line.new.self in
-    let r = c.load-lines.new.page in
-    let s = c.model-lines.new.page in
+    let r = c.load_lines.new.page in
+    let s = c.model_lines.new.page in
     let t = c.line-2.new.self in
     record {
       appends =
           appends_append p q t (sizes_text plan) (loads_left plan) c.line.ensures.appends
-          (appends_append q r t (loads_text plan) (models_left plan) c.load-lines.ensures.appends
-          (appends_append r s t (models_text plan) end_text c.model-lines.ensures.appends c.line-2.ensures.appends));
+          (appends_append q r t (loads_text plan) (models_left plan) c.load_lines.ensures.appends
+          (appends_append r s t (models_text plan) end_text c.model_lines.ensures.appends c.line-2.ensures.appends));
       lent = search rules;
     }

@@ -49,7 +49,7 @@ put-requires-3 c =
     (fits_rest q r (decimal (number_of e.fault)) (space_left e)
     (fits_rest p q (codes "refused ") (number_left e) c.requires c.put.ensures.appends) number)
     c.put-2.ensures.appends in
-    omega (arith, fits_first s (word_of e.layer) (place_left e) fits, ap length (c.as-bytes.ensures.value ∙ c.word.ensures))
+    omega (arith, fits_first s (word_of e.layer) (place_left e) fits, ap length (c.as_bytes.ensures.value ∙ c.word.ensures))
 
 pub line-requires : goal.line-requires
 line-requires c =
@@ -60,7 +60,7 @@ line-requires c =
     let s = c.put-2.new.self in
     let t = c.put-3.new.self in
     let number = appends_same q r _ _ (ap decimal c.number.ensures) c.number-2.ensures.appends in
-    let word = appends_same s t _ _ (c.as-bytes.ensures.value ∙ c.word.ensures) c.put-3.ensures.appends in
+    let word = appends_same s t _ _ (c.as_bytes.ensures.value ∙ c.word.ensures) c.put-3.ensures.appends in
     fits_rest s t (word_of e.layer) (place_left e)
     (fits_rest r s (codes " ") (word_left e)
     (fits_rest q r (decimal (number_of e.fault)) (space_left e)
@@ -77,7 +77,7 @@ returns c =
     let t = c.put-3.new.self in
     let u = c.line.new.self in
     let number = appends_same q r _ _ (ap decimal c.number.ensures) c.number-2.ensures.appends in
-    let word = appends_same s t _ _ (c.as-bytes.ensures.value ∙ c.word.ensures) c.put-3.ensures.appends in
+    let word = appends_same s t _ _ (c.as_bytes.ensures.value ∙ c.word.ensures) c.put-3.ensures.appends in
     record {
       appends =
           appends_append p q u (codes "refused ") (number_left e) c.put.ensures.appends

@@ -9,4 +9,4 @@ written : (xs ys : List ℕ) → ys ≡ xs → ys ++ post_of 0 (length xs - 0) (
 written xs ys e = rw (e, sub-zero) (ap (λ zs. xs ++ zs) (drop-replicate (length xs) 64 0))
 
 pub returns : goal.returns
-returns c = written c.args.numbers.now _ c.copy-from-slice.ensures.after
+returns c = written c.args.numbers.now _ c.copy_from_slice.ensures.after

@@ -5,10 +5,10 @@ use Rattle.printout.proofs.Words.{line_begins, word_fits, worded_more, end_fits,
 use Rattle.printout.proofs.page.Page.line.Goals as goal
 
 pub put-requires : goal.put-requires
-put-requires c = omega (arith, c.as-bytes.ensures.len, simp length-append at c.requires)
+put-requires c = omega (arith, c.as_bytes.ensures.len, simp length-append at c.requires)
 
 pub loop-n-init : goal.loop-n-init
-loop-n-init c = (line_begins _ _ _ _ c.requires (appends_same _ _ _ _ c.as-bytes.ensures.value c.put.ensures.appends), refl)
+loop-n-init c = (line_begins _ _ _ _ c.requires (appends_same _ _ _ _ c.as_bytes.ensures.value c.put.ensures.appends), refl)
 
 pub put-requires-in-loop-n : goal.put-requires-in-loop-n
 put-requires-in-loop-n c = end_fits _ _ _ _ c.loop-n.invariant.0
@@ -29,6 +29,6 @@ put-requires-2 c = end_fits _ _ _ _ c.loop-n.invariant.0
 
 pub returns : goal.returns
 returns c = record {
-  appends = line_ends _ _ _ _ c.loop-n.invariant.0 _ _ _ c.loop-n-test.false (appends_same _ _ _ _ c.as-bytes.ensures.value c.put.ensures.appends) c.put-2.ensures.appends;
+  appends = line_ends _ _ _ _ c.loop-n.invariant.0 _ _ _ c.loop-n-test.false (appends_same _ _ _ _ c.as_bytes.ensures.value c.put.ensures.appends) c.put-2.ensures.appends;
   lent = c.put-2.ensures.lent ∙ c.loop-n.invariant.1 ∙ c.put.ensures.lent;
 }

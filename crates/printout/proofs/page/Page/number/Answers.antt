@@ -3,8 +3,8 @@ use Rattle.printout.proofs.Pages.{appends_same}
 use Rattle.printout.proofs.Digits.{place_left, spelled_more, spelled_all}
 use Rattle.printout.proofs.page.Page.number.Goals as goal
 
-pub overflow-sub-at : goal.overflow-sub-at
-overflow-sub-at c = place_left _ _ _ _ c.loop-rest.invariant
+pub overflow_sub-at : goal.overflow_sub-at
+overflow_sub-at c = place_left _ _ _ _ c.loop-rest.invariant
 
 pub loop-rest-smaller : goal.loop-rest-smaller
 loop-rest-smaller c = let low : 1 ≤ c.loop-rest.at = place_left _ _ _ _ c.loop-rest.invariant in omega arith

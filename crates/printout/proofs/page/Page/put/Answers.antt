@@ -9,7 +9,7 @@ returns c =
       appends = record {
         fits = c.requires;
         longer = refl;
-        after = copied_over p.bytes.now _ c.args.s.now p.len c.copy-from-slice.ensures.after;
+        after = copied_over p.bytes.now _ c.args.s.now p.len c.copy_from_slice.ensures.after;
       };
       lent = refl;
     }
