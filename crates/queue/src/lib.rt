@@ -16,6 +16,18 @@ pub struct Queue<'a, T> {
     ghost within: { count ≤ length slots.now },
 }
 
+impl<T> Queue<'_, T> {
+    ghost use Rattle.std.specs.Prelude.{◌≡◌};
+    ghost use Rattle.queue.specs.Queues.{held};
+
+    // How many things it holds.
+    pub fn len(&self) -> usize
+        ensures { result ≡ length (held self.now) }
+    {
+        self.count
+    }
+}
+
 // Why a thing was not put: every slot is in use.
 #[derive(Clone, Copy, PartialEq, Eq, Debug)]
 pub struct Full;

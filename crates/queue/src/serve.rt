@@ -16,13 +16,6 @@ impl<'a, T> Queue<'a, T> {
     {
         Queue { slots, count: 0 }
     }
-
-    // How many things it holds.
-    pub fn len(&self) -> usize
-        ensures { result ≡ length (held self.now) }
-    {
-        self.count
-    }
 }
 
 impl<'a, T: Copy> Queue<'a, T> {
