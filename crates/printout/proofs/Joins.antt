@@ -1,6 +1,6 @@
 -- Texts put together from one for each element.
 use Rattle.std.proofs.Common.{◌≡◌, ℕ, zero, suc, ◌+◌, ◌*◌, ◌<◌, ◌≤◌, List, [], ◌∷◌, ◌++◌, length, get_or, take, sym, ap, ◌∙◌, mul-suc, arith}
-use Rattle.std.specs.List.{flat_map, AllByRecursion as All}
+use Rattle.std.specs.List.{flat_map, AllByRecursion}
 use Rattle.std.proofs.lemmas.List.{length-append, flat_map_more, take_more}
 
 module _ {X A : Type 0} (f : X → List A) where
@@ -20,7 +20,7 @@ module _ {X A : Type 0} (f : X → List A) where
       let sizes = sym (length-append (flat_map f (take i xs)) (f (get_or xs i d))) ∙ ap length (joined_next [] xs i d h) in
       omega (arith, joined_within xs (i + 1))
 
-  pub length_joined_le : (c : ℕ) (xs : List X) → All (λ x. length (f x) ≤ c) xs → length (flat_map f xs) ≤ c * length xs
+  pub length_joined_le : (c : ℕ) (xs : List X) → AllByRecursion (λ x. length (f x) ≤ c) xs → length (flat_map f xs) ≤ c * length xs
   length_joined_le c [] h = omega arith
   length_joined_le c (x ∷ xs) h =
       let one : length (f x) ≤ c = h.0 in

@@ -1,6 +1,6 @@
 -- How long lines are, for callers that must bring the room.
 use Rattle.std.proofs.Common.{ℕ, ◌+◌, ◌*◌, ◌^◌, ◌<◌, ◌≤◌, List, [], ◌∷◌, ◌++◌, length, arith}
-use Rattle.std.specs.List.{flat_map, AllByRecursion as All}
+use Rattle.std.specs.List.{flat_map, AllByRecursion}
 use Rattle.std.proofs.lemmas.Fmt.{length-decimal-le}
 use Rattle.std.proofs.ByRecursion.{All-weaker}
 use Rattle.std.proofs.lemmas.List.{length-append}
@@ -10,12 +10,12 @@ use Rattle.printout.proofs.Joins.{length_joined_le}
 pub length_spaced_le : (k n : ℕ) → 0 < k → n < 10 ^ k → n < 2 ^ 64 → length (spaced n) ≤ k + 1
 length_spaced_le k n some few small = let digits = length-decimal-le k n some few small in omega arith
 
-pub length_line_by : (c : ℕ) (tag numbers : List ℕ) → All (λ n. length (spaced n) ≤ c) numbers → length (line_of tag numbers) ≤ length tag + c * length numbers + 1
+pub length_line_by : (c : ℕ) (tag numbers : List ℕ) → AllByRecursion (λ n. length (spaced n) ≤ c) numbers → length (line_of tag numbers) ≤ length tag + c * length numbers + 1
 length_line_by c tag numbers h =
     let words = length_joined_le spaced c numbers h in
     omega (arith, length-append tag (flat_map spaced numbers ++ (10 ∷ [])), length-append (flat_map spaced numbers) (10 ∷ []))
 
 -- numbers of at most k digits
-pub length_line_le : (k : ℕ) (tag numbers : List ℕ) → 0 < k → 10 ^ k ≤ 2 ^ 64 → All (λ n. n < 10 ^ k) numbers → length (line_of tag numbers) ≤ length tag + (k + 1) * length numbers + 1
+pub length_line_le : (k : ℕ) (tag numbers : List ℕ) → 0 < k → 10 ^ k ≤ 2 ^ 64 → AllByRecursion (λ n. n < 10 ^ k) numbers → length (line_of tag numbers) ≤ length tag + (k + 1) * length numbers + 1
 length_line_le k tag numbers some within h =
     length_line_by (k + 1) tag numbers (All-weaker _ _ (λ n few. length_spaced_le k n some few (omega arith)) numbers h)

@@ -1,7 +1,7 @@
 -- One more thing is taken, after those that were taken before.
 use Rattle.std.proofs.Common.{◌≡◌, ℕ, ◌+◌, ◌-◌, ◌<◌, ◌≤◌, Bool, false, List, [], ◌∷◌, ◌++◌, length, take, drop, set, sym, ap, ◌∙◌, subst, arith}
 use Rattle.std.specs.List.Sorted.{IsPermutation}
-use Rattle.std.specs.List.{AllByRecursion as All}
+use Rattle.std.specs.List.{AllByRecursion}
 use Rattle.std.proofs.lemmas.List.{append_assoc, append-nil, length-set, take_more_set, drop-set-lt, drop-drop}
 use Rattle.std.proofs.ByRecursion.{All-weaker, All-push, all_shuffled}
 use Rattle.std.proofs.lemmas.List.Sorted.{IsPermutation-trans, IsPermutation-cons, IsPermutation-sym}
@@ -45,7 +45,7 @@ module _ {X : Type 0} where
       subst (IsPermutation (held q)) (ap (λ (l : List X). take n new ++ l) none ∙ append-nil (take n new)) was.holds
 
   module _ (precedes : X → X → Bool) where
-    pushed : (xs : List X) (y : X) → InOrder precedes xs → All (λ x. precedes y x ≡ false) xs → InOrder precedes (xs ++ y ∷ [])
+    pushed : (xs : List X) (y : X) → InOrder precedes xs → AllByRecursion (λ x. precedes y x ≡ false) xs → InOrder precedes (xs ++ y ∷ [])
     pushed [] y h a = (tt, tt)
     pushed (x ∷ xs) y h a = (All-push (λ z. precedes z x ≡ false) xs y h.0 a.0, pushed xs y h.1 a.1)
 

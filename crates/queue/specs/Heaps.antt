@@ -1,6 +1,6 @@
 -- What is said of things that wait; `precedes a b` says whether a comes before b.
 use Rattle.std.specs.Prelude.{◌≡◌, ℕ, ◌+◌, ◌*◌, ◌<◌, ◌≤◌, Bool, false, List, [], ◌∷◌, slice_index_or}
-use Rattle.std.specs.List.{AllByRecursion as All}
+use Rattle.std.specs.List.{AllByRecursion}
 
 module _ {X : Type 0} (precedes : X → X → Bool) where
   -- of the first n, none precedes its parent: the children of slot p are slots p * 2 + 1 and p * 2 + 2
@@ -9,7 +9,7 @@ module _ {X : Type 0} (precedes : X → X → Bool) where
 
   -- none of xs precedes x
   abbrev pub Unpreceded : List X → X → Type 0
-  Unpreceded xs x = All (λ y. precedes y x ≡ false) xs
+  Unpreceded xs x = AllByRecursion (λ y. precedes y x ≡ false) xs
 
   -- none is preceded by a later one
   abbrev pub InOrder : List X → Type 0
@@ -19,4 +19,4 @@ module _ {X : Type 0} (precedes : X → X → Bool) where
   -- out is in order, and nothing that is left precedes any of it
   pub record Served (out left : List X) : Type 0 where
     pub sorted : InOrder out
-    pub first : All (Unpreceded left) out
+    pub first : AllByRecursion (Unpreceded left) out

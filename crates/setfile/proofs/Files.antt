@@ -1,6 +1,6 @@
 -- The file of a set: what is read from it, and that no other set has it.
 use Rattle.std.proofs.Common.{◌≡◌, ℕ, ◌+◌, ◌*◌, ◌^◌, ◌<◌, List, [], ◌∷◌, ◌++◌, length, take, drop, None, Ok, Err, Result, sym, refl, ap, ◌∙◌, subst, arith}
-use Rattle.std.specs.List.{AllByRecursion as All}
+use Rattle.std.specs.List.{AllByRecursion}
 use Rattle.std.proofs.ByRecursion.{All-append, All-from_get_or}
 use Rattle.std.proofs.lemmas.List.{length-append, take_at}
 use Rattle.refusal.specs.declared.Refusal.{Refusal}
@@ -22,7 +22,7 @@ module _ (s : Set) where
   pub length-file_of : length (file_of s) ≡ size_for (models_of s)
   length-file_of = omega (arith, length_joined (words_of s), length-words_of)
 
-  small_words : All (λ w. w < 2 ^ 32) (words_of s)
+  small_words : AllByRecursion (λ w. w < 2 ^ 32) (words_of s)
   small_words = (
     omega (arith, s.sizes.few_models),
     (

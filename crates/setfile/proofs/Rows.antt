@@ -1,6 +1,6 @@
 -- Words that stand in a row in some bytes.
 use Rattle.std.proofs.Common.{◌≡◌, ℕ, zero, suc, ◌+◌, ◌-◌, ◌*◌, ◌^◌, ◌<◌, ◌≤◌, List, [], ◌∷◌, ◌++◌, length, get_or, drop, sym, ap, ◌∙◌, ⊎_elim, add_assoc, arith}
-use Rattle.std.specs.List.{flat_map, AllByRecursion as All}
+use Rattle.std.specs.List.{flat_map, AllByRecursion}
 use Rattle.std.proofs.lemmas.Bool.{cases_lt}
 use Rattle.std.proofs.lemmas.List.{length-append, length-drop, get_or-drop, get_or_append_left, get_or-append_right, get_or-append-add, nil_from_length, take-append-drop}
 use Rattle.std.proofs.lemmas.List.FromFn.{get_or-map-range_with_len, length-map-range_with_len, fill_by_all}
@@ -59,7 +59,7 @@ row_drop bytes n at ws row i h =
     ap (word_at bytes) (add_assoc n at (4 * i)) ∙ sym (word_at-drop bytes n (at + 4 * i)) ∙ row i h
 
 -- words that fit stand where they were written
-pub joined_row : (ws : List ℕ) → All (λ w. w < 2 ^ 32) ws → Row (flat_map word_bytes ws) 0 ws
+pub joined_row : (ws : List ℕ) → AllByRecursion (λ w. w < 2 ^ 32) ws → Row (flat_map word_bytes ws) 0 ws
 joined_row [] fits = λ i h. absurd (omega arith)
 joined_row (w ∷ ws) fits =
     row_cons (flat_map word_bytes (w ∷ ws)) 0 w ws (word_back w fits.0)
