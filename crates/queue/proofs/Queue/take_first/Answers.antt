@@ -13,15 +13,13 @@ returns g c =
     let sunk = c.sink.ensures in
     let pre = g.O.Order.precedes w in
     let o = ranked g.O.Order w in
-    let d = c.index-self-0.result in
-    let e = c.index-self-left.result in
     record {
       takes = record {
-        holds = took s _ q.count left d e (omega arith) (omega arith) sunk.holds;
+        holds = took s _ q.count left _ _ (omega arith) (omega arith) sunk.holds;
         counts = omega arith;
       };
-      first = λ h. unpreceded pre o s q.count d (omega arith) (omega arith) h;
-      stays = record { room = sunk.room; behind = sunk.behind ∙ behind_begins s left e };
+      first = λ h. unpreceded pre o s q.count _ (omega arith) (omega arith) h;
+      stays = record { room = sunk.room; behind = sunk.behind ∙ behind_begins s left _ };
       keeps = λ h. sunk.ordered (λ p k z a b f. h p k z a b (omega arith));
       lent = sunk.lent;
     }
