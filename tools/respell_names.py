@@ -3,8 +3,9 @@
 
     python3 tools/respell_names.py        at the top, once, behind Rattle's own port.py; a second run changes nothing
 
-It goes by whole words in crates/*/specs, proofs and src. A dash cannot stand inside a name of Rust, so no code is touched;
-labels that Rattle makes for proof files (`loop-i-preserved`) are not in the list and stay."""
+It goes by whole words in crates/*/specs, proofs and src. A dash cannot stand inside a name of Rust, so no code is touched.
+Labels that Rattle makes for proof files (`loop-i-preserved`) are not in the list and stay, but for one: the call of the
+function `is_heavy` had the label `is-heavy`, and the answers that cite it were mended by hand."""
 import re
 from pathlib import Path
 

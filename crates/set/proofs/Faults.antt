@@ -4,7 +4,7 @@ use Rattle.std.proofs.lemmas.Bool.{eq-eqb, cases_lt}
 use Rattle.std.proofs.lemmas.Bool.Decides.{nat_tests}
 use Rattle.std.proofs.lemmas.List.{get_or_append_left, get_or-append_right, get_or_past, length-append, length-replicate}
 use Rattle.refusal.proofs.Firsts.{none_below}
-use Rattle.set.proofs.Blanks.{getD_blank}
+use Rattle.set.proofs.Blanks.{get_or_blank}
 use Rattle.set.specs.Limits.{about_sizes, about_model, about_models, about_figures}
 use Rattle.set.specs.Models.{Timed, Costed, Clear, slots_of}
 
@@ -20,7 +20,7 @@ pub slot_is : (xs : List ℕ) (i : ℕ) → get_or (slots_of xs) i 0 ≡ get_or 
 slot_is xs i =
     ⊎_elim
     (λ (lt : i < length xs). get_or_append_left xs (replicate (64 - length xs) 0) 0 i lt)
-    (λ (le : length xs ≤ i). get_or-append_right xs (replicate (64 - length xs) 0) (length xs) i 0 refl le ∙ getD_blank (64 - length xs) (i - length xs) 0 ∙ sym (get_or_past xs i 0 le))
+    (λ (le : length xs ≤ i). get_or-append_right xs (replicate (64 - length xs) 0) (length xs) i 0 refl le ∙ get_or_blank (64 - length xs) (i - length xs) 0 ∙ sym (get_or_past xs i 0 le))
     (cases_lt i (length xs))
 
 full : (xs : List ℕ) → length xs ≤ 64 → length (slots_of xs) ≡ 64

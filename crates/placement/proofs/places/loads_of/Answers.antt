@@ -1,11 +1,11 @@
 use Rattle.std.proofs.Common.{◌+◌, arith}
-use Rattle.set.proofs.Blanks.{getD_blank}
+use Rattle.set.proofs.Blanks.{get_or_blank}
 use Rattle.plan.specs.Shares.{pieces_at}
 use Rattle.placement.proofs.Carries.{carried_more, carried_rises}
 use Rattle.placement.proofs.places.loads_of.Goals as goal
 
 pub loop-i-init : goal.loop-i-init
-loop-i-init c p h = getD_blank 32 p 0
+loop-i-init c p h = get_or_blank 32 p 0
 
 pub add_pieces-requires : goal.add_pieces-requires
 add_pieces-requires c =

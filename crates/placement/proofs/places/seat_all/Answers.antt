@@ -1,7 +1,7 @@
 use Rattle.std.proofs.Common.{◌≡◌, ◌+◌, ◌<◌, length, sym, refl, ap, ◌∙◌, arith, length-set}
 use Rattle.std.proofs.lemmas.Result.{err_from_is_err_and}
 use Rattle.refusal.proofs.Firsts.{first_more, first_stays}
-use Rattle.set.proofs.Blanks.{getD_blank}
+use Rattle.set.proofs.Blanks.{get_or_blank}
 use Rattle.plan.specs.Shares.{nowhere}
 use Rattle.placement.specs.Rules.{about_light, heavies}
 use Rattle.placement.proofs.Keeps.{heavies_le}
@@ -15,7 +15,7 @@ loop-i-init c = (
   ap (λ n. record { worker = n + 1; load = 0 }) c.requires.alone,
   refl,
   refl,
-  record { each = λ i h. absurd (omega arith); behind = λ i h. getD_blank 64 i nowhere },
+  record { each = λ i h. absurd (omega arith); behind = λ i h. get_or_blank 64 i nowhere },
 )
 
 pub overflow_add-heavies : goal.overflow_add-heavies
