@@ -1,5 +1,5 @@
 -- The number of each fault, the word of each layer, and what a refusal says.
-use Rattle.std.specs.Prelude.{◌≡◌, ℕ, zero, suc, Bool, cond, List, Some, None, Ok, Err, codes, Option, Result}
+use Rattle.std.specs.Prelude.{◌≡◌, ℕ, zero, suc, Bool, cond, List, ◌++◌, Some, None, Ok, Err, codes, decimal, Option, Result}
 use Rattle.refusal.specs.declared.Fault.{Fault}
 use Rattle.refusal.specs.declared.Fault.TheVariants.{Short, Long, Size, Period, Cost, Heavy, Full, Memory}
 use Rattle.refusal.specs.declared.Layer.{Layer}
@@ -30,6 +30,13 @@ pub record Complaint : Type 0 where
 
 abbrev pub told : Refusal → Complaint
 told e = record { number = number_of e.fault; layer = e.layer; place = e.place }
+
+-- how it is printed: refused, number, layer, place
+abbrev pub complaint_text : Complaint → List ℕ
+complaint_text c = codes "refused " ++ decimal c.number ++ codes " " ++ word_of c.layer ++ codes " " ++ decimal c.place
+
+abbrev pub refusal_text : Refusal → List ℕ
+refusal_text e = complaint_text (told e)
 
 -- the complaint, unless the test is passed: then what comes after it
 abbrev pub check : Bool → Complaint → Option Complaint → Option Complaint

@@ -1,28 +1,31 @@
 // Every refusal of every layer: what was wrong, which layer found it, and where.
 #![tactic(auto)]
 
-ghost use Rattle.std.specs.Prelude.{◌≡◌};
-ghost use Rattle.refusal.specs.Refusals.{number_of, word_of};
+ghost use Rattle.std.specs.Prelude.{◌≡◌, Some};
+ghost use Rattle.refusal.specs.Refusals.{number_of, word_of, refusal_text};
 
-// What was wrong. docs/REFUSALS.md says when each one is answered.
-#[derive(Clone, Copy, PartialEq, Eq, Debug)]
+use std::error::Error;
+use std::fmt;
+
+// What was wrong, with the number by which callers know it. docs/REFUSALS.md says when each one is answered.
+#[derive(Clone, Copy, Debug, PartialEq, Eq, Hash)]
 pub enum Fault {
     // a file, or a buffer to write one to, has too few bytes
-    Short,
+    Short = 1,
     // a file has too many bytes
-    Long,
+    Long = 2,
     // a size of the set is outside its range
-    Size,
+    Size = 3,
     // a period is 0 or does not divide the grain
-    Period,
+    Period = 4,
     // a cost is 0 or above its period
-    Cost,
+    Cost = 5,
     // the heavy models leave too few workers
-    Heavy,
+    Heavy = 6,
     // the last worker has no room for a light model
-    Full,
+    Full = 7,
     // lent memory is too small
-    Memory,
+    Memory = 10,
 }
 
 impl Fault {
@@ -30,21 +33,23 @@ impl Fault {
     pub fn number(self) -> u64
         ensures { result ≡ number_of self }
     {
-        match self {
-            Fault::Short => 1,
-            Fault::Long => 2,
-            Fault::Size => 3,
-            Fault::Period => 4,
-            Fault::Cost => 5,
-            Fault::Heavy => 6,
-            Fault::Full => 7,
-            Fault::Memory => 10,
+        self as u64
+    }
+
+    // The refusal for this fault, which a layer found at a place.
+    pub fn at(self, layer: Layer, place: u64) -> Refusal
+        ensures { result ≡ record { fault = self; layer = layer; place = place } }
+    {
+        Refusal {
+            fault: self,
+            layer,
+            place,
         }
     }
 }
 
 // Who found the fault.
-#[derive(Clone, Copy, PartialEq, Eq, Debug)]
+#[derive(Clone, Copy, Debug, PartialEq, Eq, Hash)]
 pub enum Layer {
     File,
     Set,
@@ -66,10 +71,34 @@ impl Layer {
     }
 }
 
+impl fmt::Display for Layer {
+    ghost output = { λ layer. Some (word_of layer) };
+
+    fn fmt<W: fmt::Write>(&self, f: &mut fmt::Formatter<W>) -> fmt::Result {
+        f.write_str(self.word())
+    }
+}
+
 // A fault, the layer that found it, and a place: a number that says where, or how many there were.
-#[derive(Clone, Copy, PartialEq, Eq, Debug)]
+#[derive(Clone, Copy, Debug, PartialEq, Eq, Hash)]
 pub struct Refusal {
     pub fault: Fault,
     pub layer: Layer,
     pub place: u64,
 }
+
+impl fmt::Display for Refusal {
+    ghost output = { λ refusal. Some (refusal_text refusal) };
+
+    fn fmt<W: fmt::Write>(&self, f: &mut fmt::Formatter<W>) -> fmt::Result {
+        write!(
+            f,
+            "refused {} {} {}",
+            self.fault.number(),
+            self.layer,
+            self.place
+        )
+    }
+}
+
+impl Error for Refusal {}
