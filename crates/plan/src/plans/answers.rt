@@ -5,7 +5,7 @@ ghost use Rattle.plan.specs.Groups.{Group, NoGroup, Counts};
 ghost use Rattle.plan.specs.Answers.{Worker, group_in};
 
 use super::Plan;
-use crate::groups::{Workers, count_groups, worker_group, workers_of};
+use crate::groups::{Grouping, Workers};
 use crate::pieces::Pieces;
 use set::sizes::{Sizes, WORKERS};
 
@@ -46,26 +46,32 @@ impl Plan {
     pub fn group_count(&self) -> u32
         ensures { Counts (group_in self.now) (worker_count_of self.now.set) result }
     {
-        let sizes = self.set.sizes;
-        count_groups(self.alone, sizes.group_size, sizes.workers)
+        let groups = self.grouping();
+        groups.count()
     }
 
     // The first and the last worker of a group.
     pub fn workers_in(&self, group: u32) -> Option<Workers>
         ensures { MatchOption result (NoGroup (group_in self.now) (worker_count_of self.now.set) group) (λ w. Group (group_in self.now) (worker_count_of self.now.set) group w.first w.last) }
     {
-        let sizes = self.set.sizes;
-        workers_of(self.alone, sizes.group_size, sizes.workers, group)
+        self.grouping().workers_in(group)
     }
 
     // The group that a model runs in.
     pub fn group_of(&self, model: u32) -> Option<u32>
         ensures { MatchOption result (Model self.now.set model → ⊥) (λ g. Model self.now.set model × (g ≡ group_in self.now (worker_of (pieces_at self.now.pieces (model - 1))))) }
     {
-        let worker = match self.pieces_of(model)? {
-            Pieces::Whole { worker, .. } => worker,
-            Pieces::Divided { worker, .. } => worker,
-        };
-        Some(worker_group(self.alone, self.set.sizes.group_size, worker))
+        let worker = self.pieces_of(model)?.worker();
+        Some(self.grouping().group_of(worker))
+    }
+
+    // How the plan's workers stand in groups.
+    fn grouping(&self) -> Grouping
+        ensures { result ≡ record { alone = self.now.alone; sizes = self.now.set.sizes } }
+    {
+        Grouping {
+            alone: self.alone,
+            sizes: self.set.sizes,
+        }
     }
 }
