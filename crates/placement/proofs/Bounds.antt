@@ -1,6 +1,6 @@
 -- No set that weighs little enough is refused.
 use Rattle.std.proofs.Common.{◌≡◌, ℕ, zero, suc, ◌+◌, ◌-◌, ◌*◌, ◌%◌, ◌<◌, ◌≤◌, true, false, cond, not, ◌||◌, eqb, ltb, None, refl, ap, ◌∙◌, ⊎_elim, add-zero, mul-le-mul_right, mod-eq_of_lt, mul-le-mul_left, arith}
-use native.Mathlib.Nat.{add-mul-mod_self_right, mod_self, le_of_mul-le-mul_left}
+use Rattle.std.proofs.Math.Nat.{add-mul-mod_self_right, mod_self, le_of_mul-le-mul_left}
 use Rattle.std.proofs.lemmas.Bool.{cases_eq, cases_lt, cases_Bool, cond-true, cond-false, ltb-true, ltb-false, eqb-true, eqb-false, eq-eqb, and_parts, and_cases, and_left, le-ltb, or_parts, not-false, leb-false}
 use Rattle.std.proofs.lemmas.Bool.Decides.{nat_tests}
 use Rattle.refusal.specs.Refusals.{first_below}

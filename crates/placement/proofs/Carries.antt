@@ -1,10 +1,11 @@
 -- What pieces put on one worker.
-use Rattle.std.proofs.Common.{◌≡◌, ℕ, zero, suc, ◌+◌, ◌<◌, ◌≤◌, refl, ap, add-one, arith}
+use Rattle.std.proofs.Common.{◌≡◌, ℕ, zero, suc, ◌+◌, ◌<◌, ◌≤◌, List, length, take, refl, ap, ◌∙◌, add-one, arith}
 use Rattle.std.proofs.lemmas.Bool.Decides.{nat_tests}
 use Rattle.plan.specs.declared.pieces.Pieces.{Pieces}
 use Rattle.plan.specs.declared.pieces.Pieces.TheVariants.{Whole, Divided}
 use Rattle.placement.proofs.Rises.{rises}
-use Rattle.plan.specs.Shares.{on_worker, carried}
+use Rattle.std.proofs.lemmas.List.{length-take-le, get_or-take}
+use Rattle.plan.specs.Shares.{nowhere, pieces_at, on_worker, carried}
 
 pub whole_here : (q w : ℕ) → on_worker q (Whole q w) ≡ w
 whole_here q w = grind (arith, nat_tests)
@@ -36,3 +37,11 @@ carried_same f g p (suc n) same =
     let before = carried_same f g p n (λ i h. same i (omega arith)) in
     let here = ap (on_worker p) (same n (omega arith)) in
     omega arith
+
+-- the first n models, as a list of their own
+module _ (ps : List Pieces) (n : ℕ) where
+  pub pieces_in_front : (i : ℕ) → i < n → pieces_at (take n ps) i ≡ pieces_at ps i
+  pieces_in_front i h = get_or-take n ps i nowhere h
+
+  pub carried_in_front : (p : ℕ) → n ≤ length ps → carried (pieces_at (take n ps)) p (length (take n ps)) ≡ carried (pieces_at ps) p n
+  carried_in_front p h = ap (carried (pieces_at (take n ps)) p) (length-take-le n ps h) ∙ carried_same (pieces_at (take n ps)) (pieces_at ps) p n pieces_in_front

@@ -1,13 +1,13 @@
 -- The steps of the code, in the words of the rules.
-use Rattle.std.proofs.Common.{◌≡◌, ℕ, suc, ◌+◌, ◌<◌, ◌≤◌, Bool, true, false, not, ◌||◌, eqb, List, length, set as put, None, sym, refl, ap, ◌∙◌, ⊎_elim, add-zero, add-one, arith}
-use Rattle.std.proofs.lemmas.List.{get_or-set_same, get_or-set_other}
-use Rattle.std.proofs.lemmas.Bool.{cond-true, cond-false, cases_eq, or_left}
+use Rattle.std.proofs.Common.{◌≡◌, ℕ, suc, ◌+◌, ◌-◌, ◌<◌, ◌≤◌, Bool, true, false, not, ◌||◌, eqb, List, ◌++◌, length, drop, replicate, set as put, None, sym, refl, ap, ◌∙◌, ⊎_elim, add-zero, add-one, arith}
+use Rattle.std.proofs.lemmas.List.{get_or-set_same, get_or-set_other, get_or_append_left, get_or-append_right, get_or-drop}
+use Rattle.std.proofs.lemmas.Bool.{cond-true, cond-false, cases_eq}
 use Rattle.set.specs.declared.sets.Set.{Set}
 use Rattle.set.specs.Sets.{models_of, grain_of, weight_of, worker_count_of, group_size_of}
 use Rattle.plan.specs.declared.pieces.Pieces.{Pieces}
-use Rattle.plan.specs.declared.pieces.Pieces.TheVariants.{Whole}
 use Rattle.placement.specs.declared.cursors.Cursor.{Cursor}
-use Rattle.plan.specs.Shares.{nowhere}
+use Rattle.set.proofs.Blanks.{get_or_blank}
+use Rattle.plan.specs.Shares.{nowhere, pieces_at}
 use Rattle.refusal.specs.Refusals.{check, first_below}
 use Rattle.placement.specs.Rules.{is_heavy_weight, heavy, heavies, alone_of, fits, seated, moved, cursor, placed, no_room, about_light, room_for_light}
 use Rattle.placement.specs.Placing.{Seated}
@@ -24,24 +24,10 @@ module _ (set : Set) (i weight : ℕ) (r : Bool) (weighs : weight ≡ weight_of 
   pub heavies_same : r ≡ false → heavies set (i + 1) ≡ heavies set i
   heavies_same e = rw (add-one i) (ap (λ n. heavies set i + n) (cond-false (heavy set i) 1 0 (heavy_is false e)) ∙ add-zero (heavies set i))
 
-  -- a heavy model
-  module _ (is : r ≡ true) where
-    pub cursor_stays : cursor set (i + 1) ≡ cursor set i
-    cursor_stays = rw (add-one i) (cond-true (heavy set i) _ _ (heavy_is true is))
-
-    pub heavy_passes : about_light set i ≡ None
-    heavy_passes = cond-true _ _ _ (or_left (heavy set i) _ (heavy_is true is))
-
-    pub heavy_placed : (h : ℕ) → h ≡ heavies set i → Whole (h + 1) weight ≡ placed set i
-    heavy_placed h e = rw (e, weighs) (sym (cond-true (heavy set i) _ _ (heavy_is true is)))
-
   -- a light model, tried at s
   module _ (is-not : r ≡ false) (s : Cursor) (here : s ≡ cursor set i) (alone : ℕ) (all : alone ≡ alone_of set) where
     pub light_told : check (fits (grain_of set) s weight || not (eqb s.worker (worker_count_of set))) (no_room (i + 1)) None ≡ about_light set i
     light_told = rw (here, weighs, heavy_is false is-not) refl
-
-    pub light_placed : (x : Pieces) → x ≡ seated alone (group_size_of set) (grain_of set) s weight → x ≡ placed set i
-    light_placed x e = e ∙ rw (all, here, weighs) (sym (cond-false (heavy set i) _ _ (heavy_is false is-not)))
 
     pub cursor_moves : (x : Pieces) → x ≡ seated alone (group_size_of set) (grain_of set) s weight → moved s x ≡ cursor set (i + 1)
     cursor_moves x e = rw (e, all, here, weighs, add-one i) (sym (cond-false (heavy set i) _ _ (heavy_is false is-not)))
@@ -60,11 +46,17 @@ module _ (set : Set) (i weight : ℕ) (r : Bool) (weighs : weight ≡ weight_of 
           rw (cursor_moves x e, add-one i) (in-m, level.room)
 
 -- one model more
-pub seated_more : (set : Set) (i : ℕ) (ps : List Pieces) (x : Pieces) → i < length ps → x ≡ placed set i → Seated set i ps → Seated set (i + 1) (put ps i x)
-seated_more set i ps x h e before = record {
-  each = λ j lt. ⊎_elim
-      (λ (same : j ≡ i). rw same (get_or-set_same ps i x nowhere h ∙ e))
-      (λ (ne : j ≡ i → ⊥). get_or-set_other ps i j x nowhere ne ∙ before.each j (omega arith))
-      (cases_eq j i);
-  behind = λ j le. get_or-set_other ps i j x nowhere (λ same. omega arith) ∙ before.behind j (omega arith);
+pub placed_more : (set : Set) (i : ℕ) (ps : List Pieces) (x : Pieces) → i < length ps → x ≡ placed set i → ((k : ℕ) → k < i → pieces_at ps k ≡ placed set k) → (k : ℕ) → k < i + 1 → pieces_at (put ps i x) k ≡ placed set k
+placed_more set i ps x h e before k lt =
+    ⊎_elim
+    (λ (same : k ≡ i). rw same (get_or-set_same ps i x nowhere h ∙ e))
+    (λ (ne : k ≡ i → ⊥). get_or-set_other ps i k x nowhere ne ∙ before k (omega arith))
+    (cases_eq k i)
+
+-- seats that are filled, in front of a table that holds nothing
+pub table_seated : (set : Set) (seats : List Pieces) (front size : ℕ) → length seats ≡ models_of set → ((k : ℕ) → k < models_of set → pieces_at seats k ≡ placed set k) → Seated set (models_of set) (seats ++ drop front (replicate size nowhere))
+table_seated set seats front size level filled = record {
+  each = λ i lt. get_or_append_left seats (drop front (replicate size nowhere)) nowhere i (omega arith) ∙ filled i lt;
+  behind = λ i le. get_or-append_right seats (drop front (replicate size nowhere)) (length seats) i nowhere refl (omega arith)
+      ∙ get_or-drop front (replicate size nowhere) (i - length seats) nowhere ∙ get_or_blank size (front + (i - length seats)) nowhere;
 }

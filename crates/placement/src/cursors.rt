@@ -2,9 +2,9 @@ ghost use Rattle.std.specs.Prelude.{◌≡◌, ◌+◌, ◌<◌, ◌≤◌, not,
 ghost use Rattle.refusal.specs.Refusals.{Answers, check};
 ghost use Rattle.placement.specs.Rules.{fits, seated, moved, no_room};
 
+use crate::weighed::Weighed;
 use plan::pieces::Pieces;
 use refusal::{Fault, Layer, Refusal};
-use set::sizes::Sizes;
 
 // The worker that light models are being put on, and its load so far.
 #[derive(Clone, Copy)]
@@ -15,20 +15,19 @@ pub(crate) struct Cursor {
 
 impl Cursor {
     // Where a light model goes, or a refusal where it does not fit on the last worker.
-    // Workers 1 to `alone` are groups of one.
     pub(crate) fn seat(
         self,
-        sizes: Sizes,
-        alone: u32,
+        weighed: &Weighed<'_>,
         model: u64,
         weight: u32,
     ) -> Result<Pieces, Refusal>
-        requires floor { alone < self.worker }
-        requires last { self.worker ≤ sizes.workers }
-        requires room { self.load ≤ sizes.grain }
-        requires light { weight ≤ sizes.grain }
-        ensures { Answers (check (fits sizes.grain self weight || not (self.worker == sizes.workers)) (no_room model) None) result (λ x. x ≡ seated alone sizes.group_size sizes.grain self weight) }
+        requires floor { weighed.now.alone < self.worker }
+        requires last { self.worker ≤ weighed.now.set.now.sizes.workers }
+        requires room { self.load ≤ weighed.now.set.now.sizes.grain }
+        requires light { weight ≤ weighed.now.set.now.sizes.grain }
+        ensures { Answers (check (fits weighed.now.set.now.sizes.grain self weight || not (self.worker == weighed.now.set.now.sizes.workers)) (no_room model) None) result (λ x. x ≡ seated weighed.now.alone weighed.now.set.now.sizes.group_size weighed.now.set.now.sizes.grain self weight) }
     {
+        let sizes = weighed.set.sizes;
         let worker = self.worker;
         let wanted = self.load + weight;
         if wanted <= sizes.grain {
@@ -38,13 +37,9 @@ impl Cursor {
             });
         }
         if worker == sizes.workers {
-            return Err(Refusal {
-                fault: Fault::Full,
-                layer: Layer::Placement,
-                place: model,
-            });
+            return Err(Fault::Full.at(Layer::Placement, model));
         }
-        if (worker - alone) % sizes.group_size == 0 || self.load == sizes.grain {
+        if (worker - weighed.alone) % sizes.group_size == 0 || self.load == sizes.grain {
             return Ok(Pieces::Whole {
                 worker: worker + 1,
                 size: weight,

@@ -4,6 +4,8 @@
 mod cursors;
 mod files;
 mod places;
+mod seating;
+mod weighed;
 
 pub use files::place_file;
 pub use places::place;

@@ -1,6 +1,6 @@
 -- The groups of workers, by division.
 use Rattle.std.proofs.Common.{◌≡◌, ℕ, ◌+◌, ◌-◌, ◌*◌, ◌/◌, ◌%◌, ◌<◌, ◌≤◌, min, leb, ◌⊎◌, ap, ⊎_elim, mul-le-mul_right, mod-lt, add-mul, pos_of_ne-zero, one-mul, div-add-mod', le-div_iff_mul-le, div-mul-le_self, arith}
-use native.Mathlib.Nat.{div-eq_of_lt-le, lt-div-mul-add}
+use Rattle.std.proofs.Math.Nat.{div-eq_of_lt-le, lt-div-mul-add}
 use Rattle.std.proofs.lemmas.Bool.{cond-true, cond-false, le-leb, lt-leb, cases_lt}
 use Rattle.plan.specs.Groups.{group_of, Group, NoGroup, Counts}
 

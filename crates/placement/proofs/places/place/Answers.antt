@@ -1,9 +1,12 @@
-use Rattle.std.proofs.Common.{◌≡◌, true, Some, None}
+use Rattle.std.proofs.Common.{◌≡◌, ◌+◌, ◌<◌, ◌≤◌, ◌∙◌, true, length, Some, None, arith}
+use Rattle.std.proofs.lemmas.List.{length-take-le}
 use Rattle.std.proofs.lemmas.Result.{err_from_is_err_and}
 use Rattle.refusal.specs.Refusals.{told, check}
 use Rattle.refusal.proofs.Firsts.{passed, failed, not_both}
+use Rattle.set.specs.Sets.{models_of}
 use Rattle.placement.specs.Rules.{about_placing, room_for_light, too_heavy, alone_of}
 use Rattle.placement.proofs.Bounds.{never_refused}
+use Rattle.placement.proofs.Carries.{pieces_in_front, carried_in_front}
 use Rattle.placement.proofs.Facts.{within, room, loaded, shared, grouped, one_first_piece, one_second_piece, positive}
 use Rattle.placement.proofs.places.place.Goals as goal
 
@@ -11,7 +14,7 @@ pub returns-in_err-check_room : goal.returns-in_err-check_room
 returns-in_err-check_room c =
     let p = err_from_is_err_and c.from_residual.result c.from_residual.ensures.1 in
     let set = c.args.set.now in
-    let said : check (room_for_light set) (too_heavy (alone_of set)) None ≡ Some (told c.in_err-check_room.field-0.0) = rw c.count_heavy-alone.ensures at c.in_err-check_room.ensures in
+    let said : check (room_for_light set) (too_heavy (alone_of set)) None ≡ Some (told c.in_err-check_room.field-0.0) = rw c.new-weighed.ensures at c.in_err-check_room.ensures in
     let fault : about_placing set ≡ Some (told c.in_err-check_room.field-0.0) = failed _ _ _ _ said in
     rw (p.1, p.2) record { places = fault; modest = λ m. absurd (not_both _ _ fault (never_refused set m)) }
 
@@ -19,32 +22,39 @@ pub returns-in_err-pieces : goal.returns-in_err-pieces
 returns-in_err-pieces c =
     let p = err_from_is_err_and c.from_residual-in_err-pieces.result c.from_residual-in_err-pieces.ensures.1 in
     let set = c.args.set.now in
-    let ok : room_for_light set ≡ true = (passed _ _ _ c.in_ok-check_room.ensures.0).0 in
-    let fault : about_placing set ≡ Some (told c.in_err-pieces.field-0.0) = rw ok c.in_err-pieces.ensures in
+    let ok : room_for_light set ≡ true = (passed _ _ _ (rw c.new-weighed.ensures at c.in_ok-check_room.ensures.0)).0 in
+    let fault : about_placing set ≡ Some (told c.in_err-pieces.field-0.0) = rw ok (rw c.new-weighed.ensures at c.in_err-pieces.ensures) in
     rw (p.1, p.2) record { places = fault; modest = λ m. absurd (not_both _ _ fault (never_refused set m)) }
 
 pub loads_of-loads-requires : goal.loads_of-loads-requires
 loads_of-loads-requires c =
     let set = c.args.set.now in
+    let n = models_of set in
     let pieces = c.in_ok-pieces.pieces in
-    let ok : room_for_light set ≡ true = (passed _ _ _ c.in_ok-check_room.ensures.0).0 in
-    let seated = c.in_ok-pieces.ensures in
+    let full : length pieces ≡ 64 = omega arith in
+    let ok : room_for_light set ≡ true = (passed _ _ _ (rw c.new-weighed.ensures at c.in_ok-check_room.ensures.0)).0 in
+    let seated = rw c.new-weighed.ensures at c.in_ok-pieces.ensures in
+    let front : n ≤ length pieces = omega (arith, set.sizes.few_models) in
+    let level = length-take-le n pieces front in
     record {
-      few = set.sizes.few_models;
-      within = within set pieces seated.1 ok seated.0;
-      room = room set pieces seated.1 ok seated.0;
+      few = omega (arith, set.sizes.few_models);
+      within = λ i h. let lt : i < n = omega arith in rw (pieces_in_front pieces n i lt) (within set pieces seated.1 ok seated.0 i lt);
+      room = λ p. rw (carried_in_front pieces n p front) (room set pieces seated.1 ok seated.0 p);
     }
 
 pub invariant_of-result : goal.invariant_of-result
 invariant_of-result c =
     let set = c.args.set.now in
+    let n = models_of set in
     let pieces = c.in_ok-pieces.pieces in
-    let ok : room_for_light set ≡ true = (passed _ _ _ c.in_ok-check_room.ensures.0).0 in
-    let seated = c.in_ok-pieces.ensures in
+    let full : length pieces ≡ 64 = omega arith in
+    let ok : room_for_light set ≡ true = (passed _ _ _ (rw c.new-weighed.ensures at c.in_ok-check_room.ensures.0)).0 in
+    let seated = rw c.new-weighed.ensures at c.in_ok-pieces.ensures in
+    let front : n ≤ length pieces = omega (arith, set.sizes.few_models) in
     record {
-      loaded = loaded set pieces seated.1 ok seated.0 c.loads_of-loads.result c.loads_of-loads.ensures;
+      loaded = loaded set pieces seated.1 ok seated.0 c.loads_of-loads.result (λ p h. c.loads_of-loads.ensures p h ∙ carried_in_front pieces n (p + 1) front);
       shared = shared set pieces seated.1 ok seated.0;
-      grouped = grouped set pieces seated.1 ok seated.0 c.count_heavy-alone.result c.count_heavy-alone.ensures;
+      grouped = grouped set pieces seated.1 ok seated.0 c.new-weighed.result.alone (rw c.new-weighed.ensures at c.new-weighed.result.counted);
       one_first = one_first_piece set pieces seated.1 ok seated.0;
       one_second = one_second_piece set pieces seated.1 ok seated.0;
       positive = positive set pieces seated.1 ok seated.0;

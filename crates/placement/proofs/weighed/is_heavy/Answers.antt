@@ -1,5 +1,5 @@
 use Rattle.std.proofs.Common.{◌+◌, ◌≤◌, mul-le-mul, arith}
-use Rattle.placement.proofs.places.is_heavy.Goals as goal
+use Rattle.placement.proofs.weighed.is_heavy.Goals as goal
 
 pub overflow_mul-result : goal.overflow_mul-result
 overflow_mul-result c =

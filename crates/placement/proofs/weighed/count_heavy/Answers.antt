@@ -1,7 +1,7 @@
 use Rattle.std.proofs.Common.{arith}
 use Rattle.placement.proofs.Steps.{heavies_more, heavies_same}
-use Rattle.placement.proofs.places.count_heavy.Goals as goal
-use Rattle.placement.proofs.places.count_heavy.Goals.{then-is_heavy, else-is_heavy}
+use Rattle.placement.proofs.weighed.count_heavy.Goals as goal
+use Rattle.placement.proofs.weighed.count_heavy.Goals.{then-is_heavy, else-is_heavy}
 
 pub loop-i-preserved : goal.loop-i-preserved
 loop-i-preserved c =

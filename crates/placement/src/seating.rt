@@ -1,0 +1,56 @@
+ghost use Rattle.std.specs.Prelude.{◌≡◌, ◌+◌, ◌<◌, true, None, OnOk};
+ghost use Rattle.refusal.specs.Refusals.{Answers, first_below};
+ghost use Rattle.set.specs.Sets.{models_of};
+ghost use Rattle.placement.specs.Rules.{heavies, cursor, placed, room_for_light, about_light};
+
+use crate::cursors::Cursor;
+use crate::weighed::{Weighed, is_heavy, weight_at};
+use plan::pieces::Pieces;
+use refusal::Refusal;
+
+// How far placement has come: how many heavy models there were, and the worker that light ones are being put on.
+#[derive(Clone, Copy)]
+pub(crate) struct Walk {
+    heavies: u32,
+    cursor: Cursor,
+}
+
+impl Walk {
+    // Before the first model.
+    pub(crate) fn new(weighed: &Weighed<'_>) -> Walk
+        ensures heavies { result.heavies ≡ 0 }
+        ensures cursor { result.cursor ≡ cursor weighed.now.set.now 0 }
+    {
+        Walk {
+            heavies: 0,
+            cursor: Cursor {
+                worker: weighed.alone + 1,
+                load: 0,
+            },
+        }
+    }
+
+    // Where the next model, in slot i, goes, or a refusal where it is light and finds no room.
+    pub(crate) fn seat(&mut self, weighed: &Weighed<'_>, i: usize) -> Result<Pieces, Refusal>
+        requires model { i < models_of weighed.now.set.now }
+        requires room { room_for_light weighed.now.set.now ≡ true }
+        requires heavies { self.old.heavies ≡ heavies weighed.now.set.now i }
+        requires cursor { self.old.cursor ≡ cursor weighed.now.set.now i }
+        requires before { first_below (about_light weighed.now.set.now) i ≡ None }
+        ensures answers { Answers (about_light weighed.now.set.now i) result (λ x. x ≡ placed weighed.now.set.now i) }
+        ensures heavies { OnOk result (self.new.heavies ≡ heavies weighed.now.set.now (i + 1)) }
+        ensures cursor { OnOk result (self.new.cursor ≡ cursor weighed.now.set.now (i + 1)) }
+    {
+        let weight = weight_at(weighed.set, i);
+        if is_heavy(weighed.set, weight) {
+            self.heavies += 1;
+            return Ok(Pieces::Whole {
+                worker: self.heavies,
+                size: weight,
+            });
+        }
+        let seated = self.cursor.seat(weighed, i as u64 + 1, weight)?;
+        self.cursor = self.cursor.moved(seated);
+        Ok(seated)
+    }
+}
