@@ -1,3 +1,4 @@
+ghost use Rattle.std.specs.Prelude.{◌≡◌, length};
 ghost use Rattle.plan.specs.Facts.{Loaded, Shared, Grouped, OneFirst, OneSecond, Positive};
 
 use crate::pieces::Pieces;
@@ -18,6 +19,7 @@ pub struct Plan {
     ghost one_first: { OneFirst set pieces },
     ghost one_second: { OneSecond set pieces },
     ghost positive: { Positive set pieces },
+    ghost full_pieces: { length pieces ≡ 64 },
 }
 
 mod answers;

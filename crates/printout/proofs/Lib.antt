@@ -1,4 +1,3 @@
-pub mod Digits
 pub mod Joins
 pub mod Lengths
 pub mod Pages

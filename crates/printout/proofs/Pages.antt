@@ -1,5 +1,5 @@
 -- One text after another on a page.
-use Rattle.std.proofs.Common.{◌≡◌, ℕ, ◌+◌, ◌-◌, ◌<◌, ◌≤◌, List, [], ◌++◌, length, get_or, take, drop, sym, ap, ◌∙◌, subst, arith}
+use Rattle.std.proofs.Common.{◌≡◌, ℕ, ◌+◌, ◌-◌, ◌<◌, ◌≤◌, List, [], ◌++◌, length, get_or, take, drop, sym, refl, ap, ◌∙◌, subst, arith}
 use borrow.Rule.Slice.PartMut.{put_mid}
 use Rattle.std.specs.List.{flat_map}
 use Rattle.std.proofs.lemmas.List.{append_assoc, length-append, length-take-le, length-drop, take_at, take-append-drop, drop_at, drop-drop}
@@ -39,6 +39,7 @@ appends_none p fits = record {
   fits = omega arith;
   longer = omega arith;
   after = sym (take-append-drop p.len (memory p)) ∙ (let e : p.len ≡ p.len + 0 = omega arith in λ k. take p.len (memory p) ++ drop (e k) (memory p));
+  lent = refl;
 }
 
 pub appends_same : (p q : Page) (s t : List ℕ) → s ≡ t → Appends p s q → Appends p t q
@@ -67,6 +68,7 @@ appends_append p q r s t g h =
           ∙ (λ k. append_assoc (take n m) s t k ++ drop-drop (length t) (n + length s) m k)
           ∙ append_assoc (take n m) (s ++ t) _
           ∙ (λ k. take n m ++ ((s ++ t) ++ drop (end k) m));
+      lent = h.lent ∙ g.lent;
     }
 
 pub holds_none : (old : List ℕ) (p : Page) → p.len ≡ 0 → memory p ≡ old → Holds [] old p

@@ -9,16 +9,16 @@ use Rattle.std.proofs.lemmas.Bool.{cases_Bool, cond-true, cond-false}
 use Rattle.refusal.specs.declared.Refusal.{Refusal}
 use Rattle.refusal.specs.declared.Layer.{Layer}
 use Rattle.refusal.specs.declared.Layer.TheVariants.{File, Set, Placement, Running}
-use Rattle.refusal.specs.Refusals.{number_of, word_of}
+use Rattle.refusal.specs.Refusals.{number_of, word_of, refusal_text}
 use Rattle.set.proofs.Weights.{weighs}
 use Rattle.plan.specs.declared.pieces.Pieces.{Pieces}
 use Rattle.plan.specs.declared.pieces.Pieces.TheVariants.{Whole, Divided}
 use Rattle.plan.specs.declared.plans.Plan.{Plan}
 use Rattle.plan.specs.Shares.{last_of, first_of, second_of, pieces_at}
 use Rattle.printout.specs.Lines.{line_of}
-use Rattle.printout.specs.Texts.{refusal_text, pieces_text, sizes_text, load_text, loads_text, model_text, models_text, plan_text, text_of}
+use Rattle.printout.specs.Texts.{refused_text, pieces_text, sizes_text, load_text, loads_text, model_text, models_text, plan_text, text_of}
 use Rattle.printout.proofs.Joins.{length_joined_le}
-use Rattle.printout.proofs.Lengths.{length_line_le, length_line_by}
+use Rattle.printout.proofs.Lengths.{length_line_le}
 
 -- no number has more than 64 digits as it is written
 spelled_most : (k base : ℕ) (upper : Bool) (n : ℕ) (acc : List ℕ) → length (digits_onto k base upper n acc) ≤ k + length acc
@@ -42,18 +42,18 @@ word_most Running = omega arith
 append_most : (s t : List ℕ) (a b : ℕ) → length s ≤ a → length t ≤ b → length (s ++ t) ≤ a + b
 append_most s t a b h k = omega (arith, length-append s t)
 
-refusal_most : (e : Refusal) → length (refusal_text e) ≤ 16384
+refusal_most : (e : Refusal) → length (refused_text e) ≤ 16384
 refusal_most e =
     let number = decimal (number_of e.fault) in
     let word = word_of e.layer in
-    let place = line_of [] (e.place ∷ []) in
-    let digits-fit = decimal_most e.place in
-    let place-fits : length place ≤ 66 = length_line_by 65 [] (e.place ∷ []) (omega arith, tt) in
-    let all : length (refusal_text e) ≤ 8 + (64 + (1 + (9 + 66))) =
-    append_most (codes "refused ") (number ++ (codes " " ++ (word ++ place))) 8 (64 + (1 + (9 + 66))) (omega arith)
-    (append_most number (codes " " ++ (word ++ place)) 64 (1 + (9 + 66)) (decimal_most (number_of e.fault))
-    (append_most (codes " ") (word ++ place) 1 (9 + 66) (omega arith)
-    (append_most word place 9 66 (word_most e.layer) place-fits))) in
+    let place = decimal e.place in
+    let all : length (refused_text e) ≤ 8 + 64 + 1 + 9 + 1 + 64 + 1 =
+    append_most (refusal_text e) (10 ∷ []) (8 + 64 + 1 + 9 + 1 + 64) 1
+    (append_most (codes "refused " ++ number ++ codes " " ++ word ++ codes " ") place (8 + 64 + 1 + 9 + 1) 64
+    (append_most (codes "refused " ++ number ++ codes " " ++ word) (codes " ") (8 + 64 + 1 + 9) 1
+    (append_most (codes "refused " ++ number ++ codes " ") word (8 + 64 + 1) 9
+    (append_most (codes "refused " ++ number) (codes " ") (8 + 64) 1
+    (append_most (codes "refused ") number 8 64 (omega arith) (decimal_most (number_of e.fault))) (omega arith)) (word_most e.layer)) (omega arith)) (decimal_most e.place)) (omega arith) in
     le_trans all (lit≤ tt)
 
 each_most : (f : ℕ → List ℕ) (c n : ℕ) → ((i : ℕ) → i < n → length (f i) ≤ c) → length (flat_map f (range_with_len 0 n)) ≤ c * n

@@ -1,14 +1,16 @@
 // What is printed of a set file, as text in memory that the caller lends.
 #![tactic(auto)]
 
-ghost use Rattle.std.specs.Prelude.{◌≡◌, ◌≤◌, length, MatchResult};
+ghost use Rattle.std.specs.Prelude.{◌≡◌, ◌≤◌, length, MatchResult, OnOk};
 ghost use Rattle.refusal.specs.Refusals.{Answers};
-ghost use Rattle.printout.specs.Printing.{about_memory, Printed};
+ghost use Rattle.printout.specs.Printing.{about_memory, Printed, PrintedTo};
 
 use lines::text_lines;
 use page::Page;
 use placement::place_file;
 use refusal::{Fault, Layer, Refusal};
+use std::io;
+use std::io::Write;
 
 mod lines;
 mod page;
@@ -16,19 +18,27 @@ mod page;
 // The least memory that a text is written to: every text fits it.
 pub const TEXT_BYTES: usize = 16384;
 
+// Which of the memories that a caller lends is too small: here it is the text.
+const TEXT_PLACE: u64 = 3;
+
 // Prints the plan of a set file, or the refusal of it, and answers how many bytes the text has.
 pub fn print_file(bytes: &[u8], text: &mut [u8]) -> Result<usize, Refusal>
     ensures prints { Answers (about_memory (length text.old)) result (Printed bytes.now text.old text.new) }
     ensures lent { MatchResult result (λ n. n ≤ length text.new) (λ _. text.new ≡ text.old) }
 {
     if text.len() < TEXT_BYTES {
-        return Err(Refusal {
-            fault: Fault::Memory,
-            layer: Layer::Running,
-            place: 3,
-        });
+        return Err(Fault::Memory.at(Layer::Running, TEXT_PLACE));
     }
     Ok(print_into(bytes, text))
+}
+
+// Prints the plan of a set file, or the refusal of it, to a writer.
+pub fn print_to<W: Write>(bytes: &[u8], out: &mut W) -> io::Result<()>
+    ensures { OnOk result (PrintedTo bytes.now (W.contents out.old) (W.contents out.new)) }
+{
+    let mut text = [0; TEXT_BYTES];
+    let len = print_file(bytes, &mut text).unwrap();
+    out.write_all(&text[..len])
 }
 
 // Prints into memory that is large enough.

@@ -1,7 +1,6 @@
 // The lines of the text, one function for each part of it.
-ghost use Rattle.std.specs.Prelude.{◌≡◌, ◌+◌, ◌≤◌, length};
-ghost use Rattle.printout.specs.Pages.{memory, Appends};
-ghost use Rattle.printout.specs.Texts.{refusal_text, pieces_text, loads_text, models_text, plan_text, text_of};
+ghost use Rattle.printout.specs.Pages.{Fits, Appends};
+ghost use Rattle.printout.specs.Texts.{refused_text, pieces_text, loads_text, models_text, plan_text, text_of};
 
 use crate::page::Page;
 use plan::pieces::Pieces;
@@ -10,22 +9,22 @@ use refusal::Refusal;
 
 // The one line of a refusal.
 fn refusal_line(page: &mut Page<'_>, refusal: Refusal)
-    requires { page.old.len + length (refusal_text refusal) ≤ length (memory page.old) }
-    ensures appends { Appends page.old (refusal_text refusal) page.new }
-    ensures lent { page.new.bytes.ghost_name ≡ page.old.bytes.ghost_name }
+    requires { Fits page.old (refused_text refusal) }
+    ensures { Appends page.old (refused_text refusal) page.new }
 {
-    page.put(b"refused ");
+    page.put("refused ");
     page.number(refusal.fault.number());
-    page.put(b" ");
-    page.put(refusal.layer.word().as_bytes());
-    page.line("", &[refusal.place]);
+    page.put(" ");
+    page.put(refusal.layer.word());
+    page.put(" ");
+    page.number(refusal.place);
+    page.put("\n");
 }
 
 // A line for each piece of a model.
 fn pieces_lines(page: &mut Page<'_>, model: u64, pieces: Pieces)
-    requires { page.old.len + length (pieces_text model pieces) ≤ length (memory page.old) }
-    ensures appends { Appends page.old (pieces_text model pieces) page.new }
-    ensures lent { page.new.bytes.ghost_name ≡ page.old.bytes.ghost_name }
+    requires { Fits page.old (pieces_text model pieces) }
+    ensures { Appends page.old (pieces_text model pieces) page.new }
 {
     match pieces {
         Pieces::Whole { worker, size } => page.line("piece", &[model, worker as u64, size as u64]),
@@ -42,31 +41,30 @@ fn pieces_lines(page: &mut Page<'_>, model: u64, pieces: Pieces)
 
 // A line for each worker's load.
 fn load_lines(page: &mut Page<'_>, plan: &Plan)
-    requires { page.old.len + length (loads_text plan.now) ≤ length (memory page.old) }
-    ensures appends { Appends page.old (loads_text plan.now) page.new }
-    ensures lent { page.new.bytes.ghost_name ≡ page.old.bytes.ghost_name }
+    requires { Fits page.old (loads_text plan.now) }
+    ensures { Appends page.old (loads_text plan.now) page.new }
 {
-    for p in 0..plan.set.sizes.workers as usize {
-        page.line("load", &[p as u64 + 1, plan.loads[p] as u64]);
+    let loads = &plan.loads[..plan.set.sizes.workers as usize];
+    for (p, load) in loads.iter().enumerate() {
+        page.line("load", &[p as u64 + 1, *load as u64]);
     }
 }
 
 // The lines of all models' pieces.
 fn model_lines(page: &mut Page<'_>, plan: &Plan)
-    requires { page.old.len + length (models_text plan.now) ≤ length (memory page.old) }
-    ensures appends { Appends page.old (models_text plan.now) page.new }
-    ensures lent { page.new.bytes.ghost_name ≡ page.old.bytes.ghost_name }
+    requires { Fits page.old (models_text plan.now) }
+    ensures { Appends page.old (models_text plan.now) page.new }
 {
-    for i in 0..plan.set.sizes.models as usize {
-        pieces_lines(page, i as u64 + 1, plan.pieces[i]);
+    let pieces = &plan.pieces[..plan.set.sizes.models as usize];
+    for (i, model_pieces) in pieces.iter().enumerate() {
+        pieces_lines(page, i as u64 + 1, *model_pieces);
     }
 }
 
 // All lines of a plan.
 fn plan_lines(page: &mut Page<'_>, plan: &Plan)
-    requires { page.old.len + length (plan_text plan.now) ≤ length (memory page.old) }
-    ensures appends { Appends page.old (plan_text plan.now) page.new }
-    ensures lent { page.new.bytes.ghost_name ≡ page.old.bytes.ghost_name }
+    requires { Fits page.old (plan_text plan.now) }
+    ensures { Appends page.old (plan_text plan.now) page.new }
 {
     let sizes = plan.set.sizes;
     page.line(
@@ -85,9 +83,8 @@ fn plan_lines(page: &mut Page<'_>, plan: &Plan)
 
 // All lines of what placing a file gave.
 pub(crate) fn text_lines(page: &mut Page<'_>, placed: Result<Plan, Refusal>)
-    requires { page.old.len + length (text_of placed) ≤ length (memory page.old) }
-    ensures appends { Appends page.old (text_of placed) page.new }
-    ensures lent { page.new.bytes.ghost_name ≡ page.old.bytes.ghost_name }
+    requires { Fits page.old (text_of placed) }
+    ensures { Appends page.old (text_of placed) page.new }
 {
     match placed {
         Ok(plan) => plan_lines(page, &plan),

@@ -1,12 +1,11 @@
 // Text in memory that somebody lent.
-ghost use Rattle.std.specs.Prelude.{◌≡◌, ◌+◌, ◌≤◌, length, decimal};
+ghost use Rattle.std.specs.Prelude.{◌≡◌, decimal};
 ghost use Rattle.printout.specs.Lines.{line_of};
-ghost use Rattle.printout.specs.Pages.{memory, Appends};
+ghost use Rattle.printout.specs.Pages.{memory, Fits, Appends};
 
-// A number of 64 bits has at most so many decimal digits.
-const DIGITS: usize = 20;
+use itoa::Buffer;
 
-// The first `len` bytes are written so far.
+// The first `len` bytes are written so far. The memory is the caller's, so its length stands beside it.
 #[derive(Drop)]
 pub(crate) struct Page<'a> {
     bytes: &'a mut [u8],
@@ -31,48 +30,35 @@ impl<'a> Page<'a> {
     }
 
     // Appends `s`, for which the caller sees that there is room.
-    pub(crate) fn put(&mut self, s: &[u8])
-        requires { self.old.len + length s.now ≤ length (memory self.old) }
-        ensures appends { Appends self.old s.now self.new }
-        ensures lent { self.new.bytes.ghost_name ≡ self.old.bytes.ghost_name }
+    pub(crate) fn put(&mut self, s: &str)
+        requires { Fits self.old s.now }
+        ensures { Appends self.old s.now self.new }
     {
         let start = self.len;
         let end = start + s.len();
-        self.bytes[start..end].copy_from_slice(s);
+        self.bytes[start..end].copy_from_slice(s.as_bytes());
         self.len = end;
     }
 
     // Appends `n` in decimal digits.
     pub(crate) fn number(&mut self, n: u64)
-        requires { self.old.len + length (decimal n) ≤ length (memory self.old) }
-        ensures appends { Appends self.old (decimal n) self.new }
-        ensures lent { self.new.bytes.ghost_name ≡ self.old.bytes.ghost_name }
+        requires { Fits self.old (decimal n) }
+        ensures { Appends self.old (decimal n) self.new }
     {
-        let mut digits = [b'0'; DIGITS];
-        let mut at = DIGITS;
-        let mut rest = n;
-        loop {
-            at -= 1;
-            digits[at] = b'0' + (rest % 10) as u8;
-            rest /= 10;
-            if rest == 0 {
-                break;
-            }
-        }
-        self.put(&digits[at..]);
+        let mut digits = Buffer::new();
+        self.put(digits.format(n));
     }
 
     // Appends the tag, then each number behind a space, and the end of the line.
     pub(crate) fn line(&mut self, tag: &str, numbers: &[u64])
-        requires { self.old.len + length (line_of tag.now numbers.now) ≤ length (memory self.old) }
-        ensures appends { Appends self.old (line_of tag.now numbers.now) self.new }
-        ensures lent { self.new.bytes.ghost_name ≡ self.old.bytes.ghost_name }
+        requires { Fits self.old (line_of tag.now numbers.now) }
+        ensures { Appends self.old (line_of tag.now numbers.now) self.new }
     {
-        self.put(tag.as_bytes());
+        self.put(tag);
         for n in numbers {
-            self.put(b" ");
+            self.put(" ");
             self.number(*n);
         }
-        self.put(b"\n");
+        self.put("\n");
     }
 }

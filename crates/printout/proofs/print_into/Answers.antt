@@ -17,7 +17,7 @@ returns c =
     let old = c.args.text.now in
     let page = c.text_lines.new.page in
     let none = holds_none old c.new-page.result c.new-page.ensures.none c.new-page.ensures.over in
-    let all : Holds (text_of placed) old page = holds_append [] (text_of placed) old c.new-page.result page none c.text_lines.ensures.appends in
+    let all : Holds (text_of placed) old page = holds_append [] (text_of placed) old c.new-page.result page none c.text_lines.ensures in
     let size : c.len.result ≡ length (text_of placed) = c.len.ensures ∙ all.all in
     record {
       prints = record {

@@ -1,7 +1,6 @@
-use Rattle.std.proofs.Common.{◌≡◌}
 use Rattle.printout.specs.Texts.{load_text}
 use Rattle.printout.proofs.Counts.{Written}
 use Rattle.printout.proofs.lines.load_lines.Given as goal
 
 abbrev pub invariant-loop-p : goal.invariant-loop-p
-invariant-loop-p l = Written (load_text l.plan) l.plan.set.sizes.workers l.p l.initial.page l.page × (l.page.bytes.ghost_name ≡ l.initial.page.bytes.ghost_name)
+invariant-loop-p l = Written (load_text l.plan) l.plan.set.sizes.workers l.p l.initial.page l.page

@@ -1,6 +1,5 @@
-use Rattle.std.proofs.Common.{◌≡◌}
 use Rattle.printout.proofs.Words.{Worded}
 use Rattle.printout.proofs.page.Page.line.Given as goal
 
 abbrev pub invariant-loop-n : goal.invariant-loop-n
-invariant-loop-n l = Worded l.initial.self l.numbers l.n-index l.self × (l.self.bytes.ghost_name ≡ l.initial.self.bytes.ghost_name)
+invariant-loop-n l = Worded l.initial.self l.numbers l.n-index l.self

@@ -1,4 +1,4 @@
-use Rattle.std.proofs.Common.{refl}
+use Rattle.std.proofs.Common.{refl, ◌∙◌}
 use Rattle.printout.proofs.Pages.{copied_over}
 use Rattle.printout.proofs.page.Page.put.Goals as goal
 
@@ -6,10 +6,8 @@ pub returns : goal.returns
 returns c =
     let p = c.args.self.now in
     record {
-      appends = record {
-        fits = c.requires;
-        longer = refl;
-        after = copied_over p.bytes.now _ c.args.s.now p.len c.copy_from_slice.ensures.after;
-      };
+      fits = c.requires;
+      longer = refl;
+      after = copied_over p.bytes.now _ c.args.s.now p.len (c.copy_from_slice.ensures.after ∙ c.as_bytes.ensures.value);
       lent = refl;
     }
