@@ -1,5 +1,4 @@
 // Figures that cannot come from a file, and the weights of a set.
-use crate::answers::{at, refused};
 use refusal::{Fault, Layer, Refusal};
 use set::figures::Figures;
 use set::sets::Set;
@@ -19,12 +18,12 @@ fn checked<'a>(costs: &'a [u32], periods: &'a [u32]) -> Result<Set, Refusal> {
 
 #[test]
 fn numbers_of_costs_and_periods(rt: HostRuntime) {
-    let models = at(Fault::Size, Layer::Set, 1);
-    assert_eq!(rt; refused(checked(&[1, 1], &[10])), models);
-    assert_eq!(rt; refused(checked(&[], &[10])), models);
-    assert_eq!(rt; refused(checked(&[], &[])), models);
-    assert_eq!(rt; refused(checked(&[1; 65], &[10; 65])), models);
-    assert_eq!(rt; refused(checked(&[1; 64], &[10; 64])), None);
+    let models = Some(Fault::Size.at(Layer::Set, 1));
+    assert_eq!(rt; checked(&[1, 1], &[10]).err(), models);
+    assert_eq!(rt; checked(&[], &[10]).err(), models);
+    assert_eq!(rt; checked(&[], &[]).err(), models);
+    assert_eq!(rt; checked(&[1; 65], &[10; 65]).err(), models);
+    assert_eq!(rt; checked(&[1; 64], &[10; 64]).err(), None);
 }
 
 #[test]

@@ -1,5 +1,4 @@
 // Set files that are written, and lent memory that is too small.
-use crate::answers::{at, refused};
 use printout::print_file;
 use refusal::{Fault, Layer};
 use set::figures::Figures;
@@ -33,14 +32,14 @@ fn written_and_read_back(rt: HostRuntime) -> Result<(), Fail> {
 fn memory_that_is_too_small(rt: HostRuntime) {
     let mut buffer = [7; 31];
     assert_eq!(rt;
-        refused(setfile::write(&SMALL, &mut buffer)),
-        at(Fault::Short, Layer::File, 31)
+        setfile::write(&SMALL, &mut buffer).err(),
+        Some(Fault::Short.at(Layer::File, 31))
     );
     assert_eq!(rt; buffer, [7; 31]);
     let mut text = [7; 16383];
     assert_eq!(rt;
-        refused(print_file(&[], &mut text)),
-        at(Fault::Memory, Layer::Running, 3)
+        print_file(&[], &mut text).err(),
+        Some(Fault::Memory.at(Layer::Running, 3))
     );
     assert_eq!(rt; text[0], 7);
     assert_eq!(rt; text[16382], 7);

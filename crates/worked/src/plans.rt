@@ -1,5 +1,4 @@
 // Sets whose weights are given with the grain as period, and their plans.
-use crate::answers::{at, refused};
 use placement::place;
 use plan::groups::Workers;
 use plan::pieces::Pieces;
@@ -58,8 +57,8 @@ fn filled_to_the_grain(rt: HostRuntime) -> Result<(), Fail> {
     assert_eq!(rt; plan.load_of(1), Some(10));
     assert_eq!(rt; plan.load_of(2), Some(10));
     assert_eq!(rt;
-        refused(placed(2, 2, 10, &[6, 6, 9])),
-        at(Fault::Full, Layer::Placement, 3)
+        placed(2, 2, 10, &[6, 6, 9]).err(),
+        Some(Fault::Full.at(Layer::Placement, 3))
     );
     Ok(())
 }
@@ -82,14 +81,14 @@ fn whole_on_the_next_worker(rt: HostRuntime) -> Result<(), Fail> {
 #[test]
 fn too_many_heavy_models(rt: HostRuntime) {
     assert_eq!(rt;
-        refused(placed(2, 1, 10, &[6, 6, 6])),
-        at(Fault::Heavy, Layer::Placement, 3)
+        placed(2, 1, 10, &[6, 6, 6]).err(),
+        Some(Fault::Heavy.at(Layer::Placement, 3))
     );
     assert_eq!(rt;
-        refused(placed(2, 1, 10, &[6, 6, 1])),
-        at(Fault::Heavy, Layer::Placement, 2)
+        placed(2, 1, 10, &[6, 6, 1]).err(),
+        Some(Fault::Heavy.at(Layer::Placement, 2))
     );
-    assert_eq!(rt; refused(placed(2, 1, 10, &[6, 6])), None);
+    assert_eq!(rt; placed(2, 1, 10, &[6, 6]).err(), None);
 }
 
 #[test]
