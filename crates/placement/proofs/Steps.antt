@@ -1,7 +1,7 @@
 -- The steps of the code, in the words of the rules.
 use Rattle.std.proofs.Common.{◌≡◌, ℕ, suc, ◌+◌, ◌-◌, ◌<◌, ◌≤◌, Bool, true, false, not, ◌||◌, eqb, List, ◌++◌, length, drop, replicate, set as put, None, sym, refl, ap, ◌∙◌, ⊎_elim, add-zero, add-one, arith}
 use Rattle.std.proofs.lemmas.List.{get_or-set_same, get_or-set_other, get_or_append_left, get_or-append_right, get_or-drop}
-use Rattle.std.proofs.lemmas.Bool.{cond-true, cond-false, cases_eq}
+use Rattle.std.proofs.lemmas.Bool.{cond-false, cases_eq}
 use Rattle.set.specs.declared.sets.Set.{Set}
 use Rattle.set.specs.Sets.{models_of, grain_of, weight_of, worker_count_of, group_size_of}
 use Rattle.plan.specs.declared.pieces.Pieces.{Pieces}
@@ -17,9 +17,6 @@ use Rattle.placement.proofs.Keeps.{enough, cursor_within}
 module _ (set : Set) (i weight : ℕ) (r : Bool) (weighs : weight ≡ weight_of set i) (told : r ≡ is_heavy_weight set weight) where
   heavy_is : (b : Bool) → r ≡ b → heavy set i ≡ b
   heavy_is b e = ap (λ w. is_heavy_weight set w) (sym weighs) ∙ (sym told ∙ e)
-
-  pub heavies_more : r ≡ true → heavies set (i + 1) ≡ heavies set i + 1
-  heavies_more e = rw (add-one i) (ap (λ n. heavies set i + n) (cond-true (heavy set i) 1 0 (heavy_is true e)))
 
   pub heavies_same : r ≡ false → heavies set (i + 1) ≡ heavies set i
   heavies_same e = rw (add-one i) (ap (λ n. heavies set i + n) (cond-false (heavy set i) 1 0 (heavy_is false e)) ∙ add-zero (heavies set i))

@@ -16,7 +16,3 @@ add_pieces-requires c =
       last = (c.requires.within i (omega arith)).1;
       room = λ p h. omega (arith, c.loop-model_pieces.invariant p h, carried_more pieces (p + 1) i, carried_rises pieces (p + 1) (length c.args.pieces.now) (i + 1) (omega arith), c.requires.room (p + 1));
     }
-
-pub loop-model_pieces-preserved : goal.loop-model_pieces-preserved
-loop-model_pieces-preserved c p h =
-    omega (arith, c.add_pieces.ensures p h, c.loop-model_pieces.invariant p h, carried_more (pieces_at c.args.pieces.now) (p + 1) c.loop-model_pieces.model_pieces-index)
