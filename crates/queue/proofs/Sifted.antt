@@ -1,5 +1,6 @@
 -- What is left of a heap as a thing rises or sinks through it, and that it is one again at the end.
 -- `pre a b` says whether a precedes b; v has n things, and the travelling one stands at j.
+-- std passes on the steps of a heap for a `cmp` alone, and an order here says only what precedes.
 use Rattle.std.proofs.Common.{◌≡◌, ℕ, zero, suc, ◌+◌, ◌-◌, ◌*◌, ◌/◌, ◌<◌, ◌≤◌, Bool, true, false, List, length, get_or, take, set, sym, refl, ap, ◌∙◌, ⊎_elim, arith}
 use Rattle.std.specs.List.{swap}
 use Rattle.std.specs.Cmp.{IsStrictWeakOrder}

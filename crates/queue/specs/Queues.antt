@@ -30,7 +30,7 @@ module _ {X : Type 0} where
     pub holds : IsPermutation (take n xs) (take n ys)
     pub behind : drop n ys ≡ drop n xs
 
-  -- q and r are alike, but that r has these slots, with the first n rearranged
+  -- r is q, but with these slots, of which the first n are rearranged
   pub record Sifted (n : ℕ) (slots : List X) (q r : Queue X) : Type 0 where
     pub counts : count_of r ≡ count_of q
     pub lent : r.slots.ghost_name ≡ q.slots.ghost_name
@@ -42,7 +42,7 @@ module _ {X : Type 0} where
     pub counts : count_of more ≡ count_of fewer + 1
 
 module _ {X : Type 0} (precedes : X → X → Bool) where
-  -- r is over the loan that q is over, and the slots behind what r holds stay as they were
+  -- from q to r, the loan is the same one, the order stays, and the slots behind what r holds stay as they were
   pub record Stays (q r : Queue X) : Type 0 where
     pub room : length (slots_of r) ≡ length (slots_of q)
     pub behind : drop (count_of r) (slots_of r) ≡ drop (count_of r) (slots_of q)

@@ -6,7 +6,7 @@ ghost use Rattle.queue.specs.Queues.{slots_of, count_of, Sifted};
 use super::Queue;
 use order::Order;
 
-impl<'a, T: Copy> Queue<'a, T> {
+impl<T: Copy> Queue<'_, T> {
     // Makes room for a thing on the way up from the first free slot.
     pub(crate) fn rise<O: Order<Item = T>>(&mut self, order: &O, thing: T)
         requires { count_of self.old < length (slots_of self.old) }
@@ -14,7 +14,7 @@ impl<'a, T: Copy> Queue<'a, T> {
         ensures ordered { Heaped (O.precedes order.now) (slots_of self.old) (count_of self.old) → Heaped (O.precedes order.now) (slots_of self.new) (count_of self.old + 1) }
     {
         let mut hole = self.count;
-        // a loop, since the way leads from slot to slot, along parents
+        // The tree lies in slots, so the way up goes by their numbers.
         while hole > 0 {
             let up = (hole - 1) / 2;
             let over = self.slots[up];
@@ -34,7 +34,7 @@ impl<'a, T: Copy> Queue<'a, T> {
         ensures ordered { Heaped (O.precedes order.now) (slots_of self.old) left → Heaped (O.precedes order.now) (slots_of self.new) left }
     {
         let mut hole = 0;
-        // a loop, since the way leads from slot to slot, along the children that come first
+        // The tree lies in slots, so the way down goes by their numbers.
         while hole < left / 2 {
             let child = self.first_child(order, hole, left);
             let under = self.slots[child];
