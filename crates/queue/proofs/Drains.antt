@@ -1,36 +1,35 @@
 -- One more thing is taken, after those that were taken before.
-use Rattle.std.proofs.Common.{◌≡◌, ℕ, ◌+◌, ◌-◌, ◌<◌, ◌≤◌, Bool, false, List, [], ◌∷◌, ◌++◌, length, drop, set, sym, ap, ◌∙◌, subst, arith}
+use Rattle.std.proofs.Common.{◌≡◌, ℕ, ◌+◌, ◌-◌, ◌<◌, ◌≤◌, Bool, false, List, [], ◌∷◌, ◌++◌, length, drop, set, ◌∙◌, arith}
 use Rattle.std.specs.List.Sorted.{IsPermutation}
 use Rattle.std.proofs.lemmas.List.{length-set, take_more_set, drop-set-lt, drop-drop}
 use Rattle.std.proofs.lemmas.List.Elements.{All-weaker, All-push, All-head, All-tail}
 use Rattle.std.proofs.lemmas.List.Quantifiers.{all_pairs_push}
 use Rattle.std.proofs.lemmas.List.Sorted.{IsPermutation-pop_more, IsPermutation-sym, All-permutation}
 use Rattle.queue.specs.Heaps.{Unpreceded, Served}
-use Rattle.queue.specs.Queues.{count_of, slots_of, held, OneMore, Stays, Drained}
+use Rattle.queue.specs.Queues.{count_of, slots_of, OneMore, Stays, Drained}
 use Rattle.queue.specs.declared.Queue.{Queue}
 
 module _ {X : Type 0} where
   drop_later : (xs ys : List X) (c m : ℕ) → c ≤ m → drop c xs ≡ drop c ys → drop m xs ≡ drop m ys
   drop_later xs ys c m h e =
       let is : c + (m - c) ≡ m = omega arith in
-      let split : (zs : List X) → drop m zs ≡ drop (m - c) (drop c zs) = λ zs. ap (λ (k : ℕ). drop k zs) (sym is) ∙ sym (drop-drop (m - c) c zs) in
-      split xs ∙ ap (drop (m - c)) e ∙ sym (split ys)
+      cc (drop-drop (m - c) c xs, drop-drop (m - c) c ys)
 
   module _ (precedes : X → X → Bool) where
     pub drained_more : (n : ℕ) (q r s : Queue X) (out new : List X) (x : X) → n < length out → OneMore x s r → Stays precedes r s → Drained precedes n q r out new → Drained precedes (n + 1) q s out (set new n x)
     drained_more n q r s out new x lt one stays was =
         let counts : count_of q ≡ n + count_of r = was.counts in
         let fewer : count_of r ≡ count_of s + 1 = one.counts in
-        let long : length new ≡ length out = was.as_long in
+        let within : n < length new = omega (arith, was.as_long) in
         record {
           counts = omega arith;
-          holds = subst (λ (l : List X). IsPermutation (held q) (l ++ held s)) (sym (take_more_set new n x (omega arith))) (IsPermutation-pop_more _ _ _ _ x was.holds (IsPermutation-sym _ _ one.holds));
-          room = stays.room ∙ was.room;
+          holds = rw take_more_set (IsPermutation-pop_more _ _ _ _ x was.holds (IsPermutation-sym _ _ one.holds));
+          room = cc;
           behind = drop_later (slots_of s) (slots_of r) (count_of s) (count_of q) (omega arith) stays.behind ∙ was.behind;
           keeps = λ h. stays.keeps (was.keeps h);
-          lent = stays.lent ∙ was.lent;
-          as_long = length-set new n x ∙ long;
-          rest = drop-set-lt (n + 1) new n x (omega arith) ∙ drop_later new out n (n + 1) (omega arith) was.rest;
+          lent = cc;
+          as_long = length-set new n x ∙ was.as_long;
+          rest = cc (drop-set-lt (n + 1) new n x (omega arith), drop_later new out n (n + 1) (omega arith) was.rest);
         }
 
     pub served_more : (out ys zs : List X) (x : X) → IsPermutation ys (x ∷ zs) → Unpreceded precedes ys x → Served precedes out ys → Served precedes (out ++ x ∷ []) zs

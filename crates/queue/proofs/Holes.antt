@@ -1,5 +1,5 @@
 -- A hole moves through a list. `set s j x` is the list as it would be, were the travelling thing x written into the hole at j now.
-use Rattle.std.proofs.Common.{◌≡◌, ℕ, zero, suc, ◌+◌, ◌<◌, ◌≤◌, List, [], ◌∷◌, length, get_or, take, drop, set, sym, ap, ◌∙◌, subst, add-one, arith, take-suc}
+use Rattle.std.proofs.Common.{◌≡◌, ℕ, zero, suc, ◌+◌, ◌<◌, ◌≤◌, List, [], ◌∷◌, length, get_or, take, drop, set, sym, ap, ◌∙◌, add-one, arith, take-suc}
 use Rattle.std.proofs.Math.Seq.{take-set-lt}
 use Rattle.std.specs.List.{swap}
 use Rattle.std.specs.List.Sorted.{IsPermutation}
@@ -18,11 +18,9 @@ module _ {X : Type 0} where
   hole_moves s j u x d ne lj lu =
       let v = set s j x in
       let y = get_or s u d in
-      let there : get_or v j x ≡ x = get_or-set_same s j x x lj in
-      let other : get_or v u x ≡ y = off_hole s j u x d x (λ e. ne (sym e)) lu in
+      let apart : u ≡ j → ⊥ = λ e. ne (sym e) in
       let whole : set (set v u (get_or v j x)) j (get_or v u x) ≡ swap v u j = swap_is v u j x (omega (arith, length-set s j x)) (omega (arith, length-set s j x)) in
-      let same : set (set v u x) j y ≡ set (set s j y) u x = set_comm v u j x y (λ e. ne (sym e)) ∙ ap (λ (l : List X). set l u x) (set-set s j x y) in
-      sym same ∙ (λ k. set (set v u (sym there k)) j (sym other k)) ∙ whole
+      cc (whole, get_or-set_same s j x x lj, off_hole s j u x d x apart lu, set_comm v u j x y apart, set-set s j x y)
 
   -- so the list with x in the hole keeps its things
   hole_permutes : (s : List X) (j u : ℕ) (x d : X) → (j ≡ u → ⊥) → j < length s → u < length s → IsPermutation (set s j x) (set (set s j (get_or s u d)) u x)
@@ -38,9 +36,9 @@ module _ {X : Type 0} where
       let to : take n (set (set s j y) u x) ≡ set (set t j y) u x = take-set-lt n (set s j y) u x q ∙ ap (λ (l : List X). set l u x) (take-set-lt n s j y p) in
       let moved = hole_permutes t j u x d ne (omega arith) (omega arith) in
       record {
-        room = length-set (set s j y) u x ∙ length-set s j y ∙ sym (length-set s j x) ∙ h.room;
+        room = cc (length-set (set s j y) u x, length-set s j y, length-set s j x);
         holds = IsPermutation-trans _ _ _ h.holds (rw (from, to, ← get_or-take n s u d q) moved);
-        behind = drop-set-lt n (set s j y) u x q ∙ drop-set-lt n s j y p ∙ sym (drop-set-lt n s j x p) ∙ h.behind;
+        behind = cc (drop-set-lt n (set s j y) u x q, drop-set-lt n s j y p, drop-set-lt n s j x p);
       }
 
   -- a put: x goes into the first free slot, and then finds its place
@@ -51,14 +49,13 @@ module _ {X : Type 0} where
   take_begins : (s : List X) (n : ℕ) (d e : X) → n < length s → IsPermutation (take (n + 1) s) (get_or s 0 d ∷ take n (set s 0 (get_or s n e)))
   take_begins [] n d e h = absurd (omega arith)
   take_begins (a ∷ s) zero d e h = IsPermutation-refl (a ∷ [])
-  take_begins (a ∷ s) (suc n) d e h = rw add-one (IsPermutation-cons a (take (suc n) s) (get_or s n e ∷ take n s)
-      (subst (λ (l : List X). IsPermutation l (get_or s n e ∷ take n s)) (sym (take-suc s n e (omega arith))) (IsPermutation-to_front (take n s) (get_or s n e))))
+  take_begins (a ∷ s) (suc n) d e h =
+      let within : n < length s = omega arith in
+      rw (add-one, take-suc s n e within) (IsPermutation-cons a _ _ (IsPermutation-to_front (take n s) (get_or s n e)))
 
   -- a take ends
   pub took : (s t : List X) (m n : ℕ) (d e : X) → m ≡ n + 1 → n < length s → IsPermutation (take n (set s 0 (get_or s n e))) (take n t) → IsPermutation (get_or s 0 d ∷ take n t) (take m s)
-  took s t m n d e is h moved =
-      subst (λ (k : ℕ). IsPermutation (get_or s 0 d ∷ take n t) (take k s)) (sym is)
-      (IsPermutation-sym _ _ (IsPermutation-trans _ _ _ (take_begins s n d e h) (IsPermutation-cons (get_or s 0 d) _ _ moved)))
+  took s t m n d e is h moved = rw is (IsPermutation-sym _ _ (IsPermutation-trans _ _ _ (take_begins s n d e h) (IsPermutation-cons (get_or s 0 d) _ _ moved)))
 
   -- what stands behind, as a take begins
   pub behind_begins : (s : List X) (n : ℕ) (d : X) → drop n (set s 0 (get_or s n d)) ≡ drop n s

@@ -12,10 +12,6 @@ use Rattle.queue.specs.Heaps.{Heaped, FirstChild, Unpreceded}
 use Rattle.queue.proofs.Holes.{hole_moves, off_hole}
 
 module _ {X : Type 0} (pre : X → X → Bool) where
-  -- things may be read by other names
-  by : {r : Bool} (a b x y : X) → a ≡ x → b ≡ y → pre x y ≡ r → pre a b ≡ r
-  by a b x y p q h = (λ k. pre (p k) (q k)) ∙ h
-
   -- no child of j precedes the parent of j
   abbrev Bridged : List X → ℕ → ℕ → Type 0
   Bridged v j n = (p k : ℕ) (d : X) → p * 2 + 1 ≤ j → j ≤ p * 2 + 2 → j * 2 + 1 ≤ k → k ≤ j * 2 + 2 → k < n → pre (get_or v k d) (get_or v p d) ≡ false
@@ -41,21 +37,21 @@ module _ {X : Type 0} (pre : X → X → Bool) where
     never x false e = refl
 
     itself : (v : List X) (j k : ℕ) (d : X) → k ≡ j → pre (get_or v k d) (get_or v j d) ≡ false
-    itself v j k d e = by _ _ _ _ (ap (λ m. get_or v m d) e) refl (never (get_or v j d) _ refl)
+    itself v j k d e = cc (never (get_or v j d) _ refl)
 
     -- the thing at j precedes its parent at u: they change places
-    pub rise_steps : (v w : List X) (j u n : ℕ) → u * 2 + 1 ≤ j → j ≤ u * 2 + 2 → j < n → n ≤ length v → w ≡ swap v u j → ((d : X) → pre (get_or v j d) (get_or v u d) ≡ true) → Rising v j n → Rising w u n
+    rise_steps : (v w : List X) (j u n : ℕ) → u * 2 + 1 ≤ j → j ≤ u * 2 + 2 → j < n → n ≤ length v → w ≡ swap v u j → ((d : X) → pre (get_or v j d) (get_or v u d) ≡ true) → Rising v j n → Rising w u n
     rise_steps v w j u n from to in' long is t h = (
       λ p k d a b f ne.
           let s = swapped_from_swap v w u j d (omega arith) (omega arith) is in
           let back = o.one_way _ _ (t d) in
           ⊎_elim
-          (λ e. let q : p ≡ u = omega arith in by _ _ _ _ (ap (λ m. get_or w m d) e ∙ s.1) (ap (λ m. get_or w m d) q ∙ s.0) back)
+          (λ e. let q : p ≡ u = omega arith in cc)
           (λ nj. ⊎_elim
-          (λ e. by _ _ _ _ (s.2 k ne nj) (ap (λ m. get_or w m d) e ∙ s.0) (o.chain _ _ _ (h.0 u k d (omega arith) (omega arith) f nj) back))
+          (λ e. cc (s.2 k ne nj, o.chain _ _ _ (h.0 u k d (omega arith) (omega arith) f nj) back))
           (λ nu. ⊎_elim
-          (λ e. by _ _ _ _ (s.2 k ne nj) (ap (λ m. get_or w m d) e ∙ s.1) (h.1 u k d from to (omega arith) (omega arith) f))
-          (λ z. by _ _ _ _ (s.2 k ne nj) (s.2 p nu z) (h.0 p k d a b f nj))
+          (λ e. cc (s.2 k ne nj, h.1 u k d from to (omega arith) (omega arith) f))
+          (λ z. cc (s.2 k ne nj, s.2 p nu z, h.0 p k d a b f nj))
           (cases_eq p j))
           (cases_eq p u))
           (cases_eq k j),
@@ -64,8 +60,8 @@ module _ {X : Type 0} (pre : X → X → Bool) where
           let over = h.0 p u d a b (omega arith) (omega arith) in
           let same = s.2 p (omega arith) (omega arith) in
           ⊎_elim
-          (λ e. by _ _ _ _ (ap (λ m. get_or w m d) e ∙ s.1) same over)
-          (λ nj. by _ _ _ _ (s.2 k (omega arith) nj) same (o.chain _ _ _ (h.0 u k d f g i nj) over))
+          (λ e. cc)
+          (λ nj. cc (s.2 k (omega arith) nj, o.chain _ _ _ (h.0 u k d f g i nj) over))
           (cases_eq k j),
     )
 
@@ -76,23 +72,23 @@ module _ {X : Type 0} (pre : X → X → Bool) where
           let s = swapped_from_swap v w c j d (omega arith) (omega arith) is in
           ⊎_elim
           (λ e. ⊎_elim
-          (λ u. by _ _ _ _ (ap (λ m. get_or w m d) u ∙ s.0) (ap (λ m. get_or w m d) e ∙ s.1) (o.one_way _ _ (t d)))
-          (λ u. by _ _ _ _ (s.2 k u (omega arith)) (ap (λ m. get_or w m d) e ∙ s.1) (child.first k d (omega arith) (omega arith) f))
+          (λ u. cc (o.one_way _ _ (t d)))
+          (λ u. cc (s.2 k u (omega arith), child.first k d (omega arith) (omega arith) f))
           (cases_eq k c))
           (λ nj. ⊎_elim
-          (λ u. by _ _ _ _ (ap (λ m. get_or w m d) u ∙ s.1) (s.2 p ne nj) (h.1 p c d (omega arith) (omega arith) child.from child.to child.within))
-          (λ u. by _ _ _ _ (s.2 k (omega arith) u) (s.2 p ne nj) (h.0 p k d a b f nj))
+          (λ u. cc (s.2 p ne nj, h.1 p c d (omega arith) (omega arith) child.from child.to child.within))
+          (λ u. cc (s.2 k (omega arith) u, s.2 p ne nj, h.0 p k d a b f nj))
           (cases_eq k j))
           (cases_eq p j),
       λ p k d a b f g' i.
           let s = swapped_from_swap v w c j d (omega arith) (omega arith) is in
           let q : p ≡ j = omega arith in
-          by _ _ _ _ (s.2 k (omega arith) (omega arith)) (ap (λ m. get_or w m d) q ∙ s.1) (h.0 c k d f g' i (omega arith)),
+          cc (s.2 k (omega arith) (omega arith), h.0 c k d f g' i (omega arith)),
     )
 
     sink_rests : (v : List X) (j c n : ℕ) → ((d : X) → pre (get_or v c d) (get_or v j d) ≡ false) → FirstChild pre v j n c → Sinking v j n → Heaped pre v n
     sink_rests v j c n t child h = λ p k d a b f. ⊎_elim
-        (λ e. by _ _ _ _ refl (ap (λ m. get_or v m d) e) (o.chain _ _ _ (child.first k d (omega arith) (omega arith) f) (t d)))
+        (λ e. cc (o.chain _ _ _ (child.first k d (omega arith) (omega arith) f) (t d)))
         (λ u. h.0 p k d a b f u) (cases_eq p j)
 
     -- the three ways to choose
@@ -111,7 +107,7 @@ module _ {X : Type 0} (pre : X → X → Bool) where
           to = omega arith;
           within = omega arith;
           first = λ k z a b f. ⊎_elim (itself s (j * 2 + 1) k z)
-              (λ u. by _ _ _ _ (read (j * 2 + 1 + 1) k e z (omega arith) l) (read (j * 2 + 1) _ d z refl (omega arith)) (sym t))
+              (λ u. cc (read (j * 2 + 1 + 1) k e z (omega arith) l, read (j * 2 + 1) _ d z refl (omega arith)))
               (cases_eq k (j * 2 + 1));
         }
 
@@ -121,7 +117,7 @@ module _ {X : Type 0} (pre : X → X → Bool) where
           to = omega arith;
           within = l;
           first = λ k z a b f. ⊎_elim (itself s (j * 2 + 1 + 1) k z)
-              (λ u. by _ _ _ _ (read (j * 2 + 1) k d z (omega arith) (omega arith)) (read (j * 2 + 1 + 1) _ e z refl l) (o.one_way _ _ (sym t)))
+              (λ u. cc (read (j * 2 + 1) k d z (omega arith) (omega arith), read (j * 2 + 1 + 1) _ e z refl l, o.one_way _ _ (sym t)))
               (cases_eq k (j * 2 + 1 + 1));
         }
 
@@ -134,14 +130,14 @@ module _ {X : Type 0} (pre : X → X → Bool) where
     pub unpreceded : (v : List X) (n : ℕ) (d : X) → 0 < length v → n ≤ length v → Heaped pre v n → Unpreceded pre (take n v) (get_or v 0 d)
     unpreceded v n d l m h =
         let long : length (take n v) ≡ n = length-take-le n v m in
-        All-from_get_or (λ y. pre y (get_or v 0 d) ≡ false) (take n v) d (λ i a. by _ _ _ _ (get_or-take n v i d (omega arith)) refl (top v n d h i i (omega arith) (omega arith)))
+        All-from_get_or (λ y. pre y (get_or v 0 d) ≡ false) (take n v) d (λ i a. cc (get_or-take n v i d (omega arith), top v n d h i i (omega arith) (omega arith)))
 
     -- a turn of the way up; d is the default that the read of the parent has
     module _ (s : List X) (j n : ℕ) (x d : X) (low : 0 < j) (high : j ≤ n) (long : n < length s) where
       pub rise_turn : true ≡ pre x (get_or s ((j - 1) / 2) d) → Rising (set s j x) j (n + 1) → Rising (set (set s j (get_or s ((j - 1) / 2) d)) ((j - 1) / 2) x) ((j - 1) / 2) (n + 1)
       rise_turn t h = rise_steps (set s j x) _ j ((j - 1) / 2) (n + 1) (omega arith) (omega arith) (omega arith) (omega (arith, length-set s j x))
           (hole_moves s j ((j - 1) / 2) x d (omega arith) (omega arith) (omega arith))
-          (λ z. by _ _ _ _ (get_or-set_same s j x z (omega arith)) (off_hole s j ((j - 1) / 2) x d z (omega arith) (omega arith)) (sym t)) h
+          (λ z. cc (get_or-set_same s j x z (omega arith), off_hole s j ((j - 1) / 2) x d z (omega arith) (omega arith))) h
 
     -- a turn of the way down, to the first child, at c; d is the default that its read has
     module _ (s : List X) (j c n : ℕ) (x d : X) (long : n < length s) (child : FirstChild pre s j n c) where
@@ -156,14 +152,14 @@ module _ {X : Type 0} (pre : X → X → Bool) where
         from = child.from;
         to = child.to;
         within = child.within;
-        first = λ k z a b f. by _ _ _ _ (get_or-set_other s j k x z (omega arith)) (get_or-set_other s j c x z (omega arith)) (child.first k z a b f);
+        first = λ k z a b f. cc (get_or-set_other s j k x z (omega arith), get_or-set_other s j c x z (omega arith), child.first k z a b f);
       }
 
       pub sink_turn : true ≡ pre (get_or s c d) x → Sinking (set s j x) j n → Sinking (set (set s j (get_or s c d)) c x) c n
       sink_turn t h = let from = low in let within = inside in sink_steps (set s j x) _ j c n (omega (arith, length-set s j x))
           (hole_moves s j c x d (omega arith) (omega arith) (omega arith))
-          (λ z. by _ _ _ _ (off_hole s j c x d z (omega arith) (omega arith)) (get_or-set_same s j x z (omega arith)) (sym t)) beside h
+          (λ z. cc (off_hole s j c x d z (omega arith) (omega arith), get_or-set_same s j x z (omega arith))) beside h
 
       pub sink_stops : false ≡ pre (get_or s c d) x → Sinking (set s j x) j n → Heaped pre (set s j x) n
       sink_stops t h = let from = low in let within = inside in sink_rests (set s j x) j c n
-          (λ z. by _ _ _ _ (off_hole s j c x d z (omega arith) (omega arith)) (get_or-set_same s j x z (omega arith)) (sym t)) beside h
+          (λ z. cc (off_hole s j c x d z (omega arith) (omega arith), get_or-set_same s j x z (omega arith))) beside h
