@@ -1,6 +1,6 @@
 // Entries of an agenda, and their order.
 ghost use Rattle.order.specs.Keys.{by_keys};
-ghost use Rattle.order.proofs.Keyed.{by_keys-NeverItself, by_keys-Carries, by_keys-AbsenceCarries, by_keys-OneOfTwo, by_keys-EarlierFirst};
+ghost use Rattle.order.proofs.Keyed.{by_keys-OrderLaws};
 ghost use Rattle.kinds.specs.Keys.{by_tick};
 
 use order::Order;
@@ -25,15 +25,7 @@ impl Order for ByTick {
 
     ghost precedes = { λ _. by_keys by_tick };
 
-    ghost never_itself = { λ _. by_keys-NeverItself by_tick };
-
-    ghost carries = { λ _. by_keys-Carries by_tick };
-
-    ghost absence_carries = { λ _. by_keys-AbsenceCarries by_tick };
-
-    ghost one_of_two = { λ _. by_keys-OneOfTwo by_tick 1 };
-
-    ghost earlier_first = { λ _. by_keys-EarlierFirst by_tick };
+    ghost laws = { λ _. by_keys-OrderLaws by_tick 1 };
 
     fn before(&self, a: &Entry, b: &Entry) -> bool {
         (a.tick, a.model) < (b.tick, b.model)

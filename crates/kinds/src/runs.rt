@@ -1,6 +1,6 @@
 // Runs that are not complete yet, and two orders of them.
 ghost use Rattle.order.specs.Keys.{by_keys};
-ghost use Rattle.order.proofs.Keyed.{by_keys-NeverItself, by_keys-Carries, by_keys-AbsenceCarries, by_keys-OneOfTwo, by_keys-EarlierFirst};
+ghost use Rattle.order.proofs.Keyed.{by_keys-OrderLaws};
 ghost use Rattle.kinds.specs.Keys.{by_model, by_remaining};
 
 use order::Order;
@@ -26,15 +26,7 @@ impl Order for ByModel {
 
     ghost precedes = { λ _. by_keys by_model };
 
-    ghost never_itself = { λ _. by_keys-NeverItself by_model };
-
-    ghost carries = { λ _. by_keys-Carries by_model };
-
-    ghost absence_carries = { λ _. by_keys-AbsenceCarries by_model };
-
-    ghost one_of_two = { λ _. by_keys-OneOfTwo by_model 1 };
-
-    ghost earlier_first = { λ _. by_keys-EarlierFirst by_model };
+    ghost laws = { λ _. by_keys-OrderLaws by_model 1 };
 
     fn before(&self, a: &Run, b: &Run) -> bool {
         (a.deadline, a.model) < (b.deadline, b.model)
@@ -54,15 +46,7 @@ impl Order for ByRemaining {
 
     ghost precedes = { λ _. by_keys by_remaining };
 
-    ghost never_itself = { λ _. by_keys-NeverItself by_remaining };
-
-    ghost carries = { λ _. by_keys-Carries by_remaining };
-
-    ghost absence_carries = { λ _. by_keys-AbsenceCarries by_remaining };
-
-    ghost one_of_two = { λ _. by_keys-OneOfTwo by_remaining 2 };
-
-    ghost earlier_first = { λ _. by_keys-EarlierFirst by_remaining };
+    ghost laws = { λ _. by_keys-OrderLaws by_remaining 2 };
 
     fn before(&self, a: &Run, b: &Run) -> bool {
         (a.deadline, a.remaining, a.model) < (b.deadline, b.remaining, b.model)

@@ -1,58 +1,40 @@
 -- Every order by keys keeps the laws.
-use Rattle.std.proofs.Common.{◌≡◌, ℕ, ◌<◌, Bool, true, false, not, ◌&&◌, ◌||◌, eqb, ltb, List, [], ◌∷◌, get_or, sym, refl, ap, true≢false, arith}
+use Rattle.std.proofs.Common.{◌≡◌, ℕ, ◌<◌, true, not, List, [], ◌∷◌, get_or, refl, ap, Ordering, Less, Equal, Greater, arith}
+use Rattle.std.specs.FinMap.{slice_cmp-IsAntisymmetric, nat_cmp-IsAntisymmetric}
+use Rattle.std.specs.Ordering.{is_lt, ordering_reverse}
 use Rattle.std.proofs.lemmas.Bool.Decides.{nat_tests}
-use Rattle.order.specs.Laws.{NeverItself, Carries, AbsenceCarries, OneOfTwo, EarlierFirst}
+use Rattle.std.proofs.lemmas.Cmp.{nat_list_cmp_total, tied_itself}
+use Rattle.std.proofs.lemmas.List.Sorted.{ranks_by}
+use Rattle.order.specs.Laws.{NeverItself, Carries, AbsenceCarries, OneOfTwo, EarlierFirst, OrderLaws}
 use Rattle.order.specs.Keys.{lower, by_keys}
 
--- one key, and what the rest decides
-abbrev then : ℕ → ℕ → Bool → Bool
-then x y rest = ltb x y || (eqb x y && rest)
-
-one_never : (x : ℕ) (p : Bool) → p ≡ false → then x x p ≡ false
-one_never x p h = grind (arith, nat_tests)
-
-one_carries : (x y z : ℕ) (p q r : Bool) → (p ≡ true → q ≡ true → r ≡ true) → then x y p ≡ true → then y z q ≡ true → then x z r ≡ true
-one_carries x y z p q r h a b = grind (arith, nat_tests)
-
-one_absent : (x y z : ℕ) (p q r : Bool) → (p ≡ false → q ≡ false → r ≡ false) → then x y p ≡ false → then y z q ≡ false → then x z r ≡ false
-one_absent x y z p q r h a b = grind (arith, nat_tests)
-
-one_differs : (x y : ℕ) (p q : Bool) → (x ≡ y → p ≡ not q) → then x y p ≡ not (then y x q)
-one_differs x y p q h = grind (arith, nat_tests)
-
-one_earlier : (x y : ℕ) (p : Bool) → x < y → then x y p ≡ true
-one_earlier x y p h = grind (arith, nat_tests)
-
 list_never : NeverItself lower
-list_never [] = refl
-list_never (x ∷ xs) = one_never x (lower xs xs) (list_never xs)
+list_never xs = ap is_lt (tied_itself nat_list_cmp_total xs)
+
+less : (o : Ordering) → is_lt o ≡ true → o ≡ Less
+less Less h = refl
+less Equal h = absurd cc
+less Greater h = absurd cc
 
 list_carries : Carries lower
-list_carries [] [] zs p q = q
-list_carries [] (y ∷ ys) [] p q = q
-list_carries [] (y ∷ ys) (z ∷ zs) p q = refl
-list_carries (x ∷ xs) [] zs p q = absurd (true≢false (sym p))
-list_carries (x ∷ xs) (y ∷ ys) [] p q = q
-list_carries (x ∷ xs) (y ∷ ys) (z ∷ zs) p q = one_carries x y z (lower xs ys) (lower ys zs) (lower xs zs) (list_carries xs ys zs) p q
+list_carries xs ys zs p q = ap is_lt (nat_list_cmp_total.trans xs ys zs (less _ p) (less _ q))
 
 list_absent : AbsenceCarries lower
-list_absent [] [] zs p q = q
-list_absent [] (y ∷ ys) zs p q = absurd (true≢false p)
-list_absent (x ∷ xs) ys [] p q = refl
-list_absent (x ∷ xs) [] (z ∷ zs) p q = absurd (true≢false q)
-list_absent (x ∷ xs) (y ∷ ys) (z ∷ zs) p q = one_absent x y z (lower xs ys) (lower ys zs) (lower xs zs) (list_absent xs ys zs) p q
+list_absent = (ranks_by nat_list_cmp_total (λ (xs : List ℕ). xs)).chain
+
+differ : (o back : Ordering) → o ≡ ordering_reverse back → (o ≡ Equal → ⊥) → is_lt o ≡ not (is_lt back)
+differ o Less e ne = ap is_lt e
+differ o Equal e ne = absurd (ne e)
+differ o Greater e ne = ap is_lt e
 
 list_differs : (xs ys : List ℕ) → (xs ≡ ys → ⊥) → lower xs ys ≡ not (lower ys xs)
-list_differs [] [] h = absurd (h refl)
-list_differs [] (y ∷ ys) h = refl
-list_differs (x ∷ xs) [] h = refl
-list_differs (x ∷ xs) (y ∷ ys) h = one_differs x y (lower xs ys) (lower ys xs) (λ e. list_differs xs ys (λ r. h (λ i. e i ∷ r i)))
+list_differs xs ys h = differ _ _ (nat_list_cmp_total.antisymm xs ys) (λ e. h (slice_cmp-IsAntisymmetric nat_cmp-IsAntisymmetric xs ys e))
 
 list_earlier : (xs ys : List ℕ) → get_or xs 0 0 < get_or ys 0 0 → lower xs ys ≡ true
 list_earlier [] [] h = absurd (omega arith)
 list_earlier [] (y ∷ ys) h = refl
 list_earlier (x ∷ xs) [] h = absurd (omega arith)
-list_earlier (x ∷ xs) (y ∷ ys) h = one_earlier x y (lower xs ys) h
+list_earlier (x ∷ xs) (y ∷ ys) h = grind (arith, nat_tests)
 
 module _ {X : Type 0} (keys : X → List ℕ) where
   pub by_keys-NeverItself : NeverItself (by_keys keys)
@@ -71,3 +53,13 @@ module _ {X : Type 0} (keys : X → List ℕ) where
   -- where the first key is the moment
   pub by_keys-EarlierFirst : EarlierFirst (λ a. get_or (keys a) 0 0) (by_keys keys)
   by_keys-EarlierFirst a b = list_earlier (keys a) (keys b)
+
+  -- where both are so
+  pub by_keys-OrderLaws : (i : ℕ) → OrderLaws (λ a. get_or (keys a) i 0) (λ a. get_or (keys a) 0 0) (by_keys keys)
+  by_keys-OrderLaws i = record {
+    never_itself = by_keys-NeverItself;
+    carries = by_keys-Carries;
+    absence_carries = by_keys-AbsenceCarries;
+    one_of_two = by_keys-OneOfTwo i;
+    earlier_first = by_keys-EarlierFirst;
+  }

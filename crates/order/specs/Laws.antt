@@ -21,3 +21,11 @@ module _ {X : Type 0} where
   -- what has the earlier moment precedes
   abbrev pub EarlierFirst : (X → ℕ) → (X → X → Bool) → Type 0
   EarlierFirst moment precedes = (a b : X) → moment a < moment b → precedes a b ≡ true
+
+-- all of them, of things that have a model and a moment
+pub record OrderLaws {X : Type 0} (model moment : X → ℕ) (precedes : X → X → Bool) : Type 0 where
+  pub never_itself : NeverItself precedes
+  pub carries : Carries precedes
+  pub absence_carries : AbsenceCarries precedes
+  pub one_of_two : OneOfTwo model precedes
+  pub earlier_first : EarlierFirst moment precedes

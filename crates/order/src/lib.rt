@@ -2,9 +2,10 @@
 #![tactic(auto)]
 
 ghost use Rattle.std.specs.Prelude.{◌≡◌, ℕ, Bool};
-ghost use Rattle.order.specs.Laws.{NeverItself, Carries, AbsenceCarries, OneOfTwo, EarlierFirst};
+ghost use Rattle.order.specs.Laws.{OrderLaws};
 
 // An order of one kind of thing. Each thing belongs to a model and has a moment, of any width.
+// The kind is an associated type, since an order is of one kind: a bound then names it once, as `Order<Item = T>`.
 pub trait Order {
     type Item;
 
@@ -15,15 +16,8 @@ pub trait Order {
     // What the order means: whether the first of two things precedes the second.
     ghost precedes: { Self → Self.Item → Self.Item → Bool };
 
-    ghost never_itself: { (o : Self) → NeverItself (precedes o) };
-
-    ghost carries: { (o : Self) → Carries (precedes o) };
-
-    ghost absence_carries: { (o : Self) → AbsenceCarries (precedes o) };
-
-    ghost one_of_two: { (o : Self) → OneOfTwo model (precedes o) };
-
-    ghost earlier_first: { (o : Self) → EarlierFirst moment (precedes o) };
+    // What each `impl` must prove.
+    ghost laws: { (o : Self) → OrderLaws model moment (precedes o) };
 
     // Whether a precedes b.
     fn before(&self, a: &Self::Item, b: &Self::Item) -> bool

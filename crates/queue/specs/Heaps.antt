@@ -1,22 +1,27 @@
 -- What is said of things that wait; `precedes a b` says whether a comes before b.
-use Rattle.std.specs.Prelude.{◌≡◌, ℕ, ◌+◌, ◌*◌, ◌<◌, ◌≤◌, Bool, false, List, [], ◌∷◌, slice_index_or}
-use Rattle.std.specs.List.{AllByRecursion}
+use Rattle.std.specs.Prelude.{◌≡◌, ℕ, ◌+◌, ◌*◌, ◌<◌, ◌≤◌, Bool, false, List, slice_index_or, All, AllPairs}
 
 module _ {X : Type 0} (precedes : X → X → Bool) where
   -- of the first n, none precedes its parent: the children of slot p are slots p * 2 + 1 and p * 2 + 2
   abbrev pub Heaped : List X → ℕ → Type 0
   Heaped xs n = (p k : ℕ) (d : X) → p * 2 + 1 ≤ k → k ≤ p * 2 + 2 → k < n → precedes (slice_index_or xs k d) (slice_index_or xs p d) ≡ false
 
+  -- c is a child of slot p among the first n, and no child there precedes it
+  pub record FirstChild (xs : List X) (p n c : ℕ) : Type 0 where
+    pub from : p * 2 + 1 ≤ c
+    pub to : c ≤ p * 2 + 2
+    pub within : c < n
+    pub first : (k : ℕ) (d : X) → p * 2 + 1 ≤ k → k ≤ p * 2 + 2 → k < n → precedes (slice_index_or xs k d) (slice_index_or xs c d) ≡ false
+
   -- none of xs precedes x
   abbrev pub Unpreceded : List X → X → Type 0
-  Unpreceded xs x = AllByRecursion (λ y. precedes y x ≡ false) xs
+  Unpreceded xs x = All (λ y. precedes y x ≡ false) xs
 
   -- none is preceded by a later one
   abbrev pub InOrder : List X → Type 0
-  InOrder [] = Unit {0}
-  InOrder (x ∷ xs) = Unpreceded xs x × InOrder xs
+  InOrder xs = AllPairs (λ x later. precedes later x ≡ false) xs
 
   -- out is in order, and nothing that is left precedes any of it
   pub record Served (out left : List X) : Type 0 where
     pub sorted : InOrder out
-    pub first : AllByRecursion (Unpreceded left) out
+    pub first : All (Unpreceded left) out

@@ -24,21 +24,38 @@ module _ {X : Type 0} where
   abbrev pub Keeps : (X → X → Bool) → Queue X → Queue X → Type 0
   Keeps precedes q r = Ordered precedes q → Ordered precedes r
 
--- more holds just what fewer holds, and x
-pub record OneMore {X : Type 0} (x : X) (fewer more : Queue X) : Type 0 where
-  pub holds : IsPermutation (x ∷ held fewer) (held more)
-  pub counts : count_of more ≡ count_of fewer + 1
+  -- ys is xs, but that the first n may stand in another order
+  pub record Rearranged (n : ℕ) (xs ys : List X) : Type 0 where
+    pub room : length ys ≡ length xs
+    pub holds : IsPermutation (take n xs) (take n ys)
+    pub behind : drop n ys ≡ drop n xs
 
--- from q to r, the slots behind what r holds stay as they were
-pub record Stays {X : Type 0} (q r : Queue X) : Type 0 where
-  pub room : length (slots_of r) ≡ length (slots_of q)
-  pub behind : drop (count_of r) (slots_of r) ≡ drop (count_of r) (slots_of q)
+  -- r is q, but with these slots, of which the first n are rearranged
+  pub record Sifted (n : ℕ) (slots : List X) (q r : Queue X) : Type 0 where
+    pub counts : count_of r ≡ count_of q
+    pub lent : r.slots.ghost_name ≡ q.slots.ghost_name
+    pub things : Rearranged n slots (slots_of r)
 
--- n things went from q, which is r afterwards, to the front of out, which is new afterwards
-pub record Drained {X : Type 0} (n : ℕ) (q r : Queue X) (out new : List X) : Type 0 where
-  pub counts : count_of q ≡ n + count_of r
-  pub holds : IsPermutation (held q) (take n new ++ held r)
-  pub room : length (slots_of r) ≡ length (slots_of q)
-  pub behind : drop (count_of q) (slots_of r) ≡ drop (count_of q) (slots_of q)
-  pub as_long : length new ≡ length out
-  pub rest : drop n new ≡ drop n out
+  -- more holds just what fewer holds, and x
+  pub record OneMore (x : X) (fewer more : Queue X) : Type 0 where
+    pub holds : IsPermutation (x ∷ held fewer) (held more)
+    pub counts : count_of more ≡ count_of fewer + 1
+
+module _ {X : Type 0} (precedes : X → X → Bool) where
+  -- from q to r, the loan is the same one, the order stays, and the slots behind what r holds stay as they were
+  pub record Stays (q r : Queue X) : Type 0 where
+    pub room : length (slots_of r) ≡ length (slots_of q)
+    pub behind : drop (count_of r) (slots_of r) ≡ drop (count_of r) (slots_of q)
+    pub keeps : Keeps precedes q r
+    pub lent : r.slots.ghost_name ≡ q.slots.ghost_name
+
+  -- n things went from q, which is r afterwards, to the front of out, which is new afterwards
+  pub record Drained (n : ℕ) (q r : Queue X) (out new : List X) : Type 0 where
+    pub counts : count_of q ≡ n + count_of r
+    pub holds : IsPermutation (held q) (take n new ++ held r)
+    pub room : length (slots_of r) ≡ length (slots_of q)
+    pub behind : drop (count_of q) (slots_of r) ≡ drop (count_of q) (slots_of q)
+    pub keeps : Keeps precedes q r
+    pub lent : r.slots.ghost_name ≡ q.slots.ghost_name
+    pub as_long : length new ≡ length out
+    pub rest : drop n new ≡ drop n out

@@ -1,14 +1,18 @@
 // A queue over lent slots, from which what comes first is taken first.
 #![tactic(auto)]
 
-ghost use Rattle.std.specs.Prelude.{◌≤◌, length};
+ghost use Rattle.std.specs.Prelude.{◌≤◌, length, Some, codes};
 
 mod drain;
 mod serve;
 mod sift;
 
+use std::error::Error;
+use std::fmt;
+
 // A heap: the things stand in the first `count` slots, none of them before its parent, which for slot k is slot (k - 1) / 2.
-// The order in which they stand is lent to each call.
+// A lent slice and a count, since nothing allocates. The order in which they stand is lent to each call, so a queue owns none.
+// No view by `Model`: clauses speak of the slots, the count and the loan, and that is all there is.
 #[derive(Drop)]
 pub struct Queue<'a, T> {
     slots: &'a mut [T],
@@ -31,3 +35,13 @@ impl<T> Queue<'_, T> {
 // Why a thing was not put: every slot is in use.
 #[derive(Clone, Copy, PartialEq, Eq, Debug)]
 pub struct Full;
+
+impl fmt::Display for Full {
+    ghost output = { λ _. Some (codes "every slot is in use") };
+
+    fn fmt<W: fmt::Write>(&self, f: &mut fmt::Formatter<W>) -> fmt::Result {
+        f.write_str("every slot is in use")
+    }
+}
+
+impl Error for Full {}

@@ -1,7 +1,7 @@
 // What can be done with a queue.
 ghost use Rattle.std.specs.Prelude.{◌≡◌, ◌<◌, Bool, length, IfSome, MatchOption, MatchResult};
 ghost use Rattle.queue.specs.Heaps.{Unpreceded};
-ghost use Rattle.queue.specs.Queues.{slots_of, count_of, held, Ordered, Keeps, OneMore, Stays};
+ghost use Rattle.queue.specs.Queues.{slots_of, count_of, held, Ordered, OneMore, Stays};
 
 use super::{Full, Queue};
 use order::Order;
@@ -18,13 +18,12 @@ impl<'a, T> Queue<'a, T> {
     }
 }
 
-impl<'a, T: Copy> Queue<'a, T> {
+impl<T: Copy> Queue<'_, T> {
     // Adds a thing, unless all slots are in use.
+    #[tactic(auto, using(crate::proofs::Holes::put_holds))]
     pub fn put<O: Order<Item = T>>(&mut self, order: &O, thing: T) -> Result<(), Full>
         ensures puts { MatchResult result (λ _. OneMore thing self.old self.new) (λ _. (count_of self.old ≡ length (slots_of self.old)) × (self.new ≡ self.old)) }
-        ensures stays { Stays self.old self.new }
-        ensures keeps { Keeps (O.precedes order.now) self.old self.new }
-        ensures lent { self.new.slots.ghost_name ≡ self.old.slots.ghost_name }
+        ensures stays { Stays (O.precedes order.now) self.old self.new }
     {
         let count = self.count;
         if count == self.slots.len() {
@@ -39,9 +38,7 @@ impl<'a, T: Copy> Queue<'a, T> {
     pub fn take<O: Order<Item = T>>(&mut self, order: &O) -> Option<T>
         ensures takes { MatchOption result ((count_of self.old ≡ 0) × (self.new ≡ self.old)) (λ thing. OneMore thing self.new self.old) }
         ensures first { Ordered (O.precedes order.now) self.old → IfSome result (Unpreceded (O.precedes order.now) (held self.old)) }
-        ensures stays { Stays self.old self.new }
-        ensures keeps { Keeps (O.precedes order.now) self.old self.new }
-        ensures lent { self.new.slots.ghost_name ≡ self.old.slots.ghost_name }
+        ensures stays { Stays (O.precedes order.now) self.old self.new }
     {
         if self.count == 0 {
             return None;
@@ -50,13 +47,12 @@ impl<'a, T: Copy> Queue<'a, T> {
     }
 
     // Takes out what stands in the first slot; the thing in the last slot sinks from there.
+    #[tactic(auto, using(crate::proofs::Holes::took))]
     pub(crate) fn take_first<O: Order<Item = T>>(&mut self, order: &O) -> T
         requires { 0 < count_of self.old }
         ensures takes { OneMore result self.new self.old }
         ensures first { Ordered (O.precedes order.now) self.old → Unpreceded (O.precedes order.now) (held self.old) result }
-        ensures stays { Stays self.old self.new }
-        ensures keeps { Keeps (O.precedes order.now) self.old self.new }
-        ensures lent { self.new.slots.ghost_name ≡ self.old.slots.ghost_name }
+        ensures stays { Stays (O.precedes order.now) self.old self.new }
     {
         let left = self.count - 1;
         let first = self.slots[0];

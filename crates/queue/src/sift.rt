@@ -1,24 +1,20 @@
 // How a thing finds its slot: others move along into the hole, until it may stand in the hole itself.
-ghost use Rattle.std.specs.Prelude.{◌≡◌, ◌+◌, ◌<◌, ◌∷◌, length, take, drop, slice_set};
-ghost use Rattle.std.specs.List.Sorted.{IsPermutation};
-ghost use Rattle.queue.specs.Heaps.{Heaped};
-ghost use Rattle.queue.specs.Queues.{slots_of, count_of, held};
+ghost use Rattle.std.specs.Prelude.{◌+◌, ◌*◌, ◌<◌, ◌≤◌, length, slice_set};
+ghost use Rattle.queue.specs.Heaps.{Heaped, FirstChild};
+ghost use Rattle.queue.specs.Queues.{slots_of, count_of, Sifted};
 
 use super::Queue;
 use order::Order;
 
-impl<'a, T: Copy> Queue<'a, T> {
+impl<T: Copy> Queue<'_, T> {
     // Makes room for a thing on the way up from the first free slot.
     pub(crate) fn rise<O: Order<Item = T>>(&mut self, order: &O, thing: T)
         requires { count_of self.old < length (slots_of self.old) }
-        ensures count { count_of self.new ≡ count_of self.old }
-        ensures room { length (slots_of self.new) ≡ length (slots_of self.old) }
-        ensures holds { IsPermutation (thing ∷ held self.old) (take (count_of self.old + 1) (slots_of self.new)) }
-        ensures behind { drop (count_of self.old + 1) (slots_of self.new) ≡ drop (count_of self.old + 1) (slots_of self.old) }
+        ensures sifts { Sifted (count_of self.old + 1) (slice_set (slots_of self.old) (count_of self.old) thing) self.old self.new }
         ensures ordered { Heaped (O.precedes order.now) (slots_of self.old) (count_of self.old) → Heaped (O.precedes order.now) (slots_of self.new) (count_of self.old + 1) }
-        ensures lent { self.new.slots.ghost_name ≡ self.old.slots.ghost_name }
     {
         let mut hole = self.count;
+        // The tree lies in slots, so the way up goes by their numbers.
         while hole > 0 {
             let up = (hole - 1) / 2;
             let over = self.slots[up];
@@ -34,24 +30,14 @@ impl<'a, T: Copy> Queue<'a, T> {
     // Makes room for a thing on the way down from the first slot, among the first `left`.
     pub(crate) fn sink<O: Order<Item = T>>(&mut self, order: &O, thing: T, left: usize)
         requires { left < length (slots_of self.old) }
-        ensures count { count_of self.new ≡ count_of self.old }
-        ensures room { length (slots_of self.new) ≡ length (slots_of self.old) }
-        ensures holds { IsPermutation (take left (slice_set (slots_of self.old) 0 thing)) (take left (slots_of self.new)) }
-        ensures behind { drop left (slots_of self.new) ≡ drop left (slice_set (slots_of self.old) 0 thing) }
+        ensures sifts { Sifted left (slice_set (slots_of self.old) 0 thing) self.old self.new }
         ensures ordered { Heaped (O.precedes order.now) (slots_of self.old) left → Heaped (O.precedes order.now) (slots_of self.new) left }
-        ensures lent { self.new.slots.ghost_name ≡ self.old.slots.ghost_name }
     {
         let mut hole = 0;
+        // The tree lies in slots, so the way down goes by their numbers.
         while hole < left / 2 {
-            let mut child = hole * 2 + 1;
-            let mut under = self.slots[child];
-            if child + 1 < left {
-                let beside = self.slots[child + 1];
-                if order.before(&beside, &under) {
-                    child += 1;
-                    under = beside;
-                }
-            }
+            let child = self.first_child(order, hole, left);
+            let under = self.slots[child];
             if !order.before(&under, &thing) {
                 break;
             }
@@ -59,5 +45,22 @@ impl<'a, T: Copy> Queue<'a, T> {
             hole = child;
         }
         self.slots[hole] = thing;
+    }
+
+    // The slot of that child of `parent`, among the first `left`, which no other precedes.
+    fn first_child<O: Order<Item = T>>(&self, order: &O, parent: usize, left: usize) -> usize
+        requires child { parent * 2 + 1 < left }
+        requires room { left ≤ length (slots_of self.now) }
+        ensures { FirstChild (O.precedes order.now) (slots_of self.now) parent left result }
+    {
+        let child = parent * 2 + 1;
+        if child + 1 < left {
+            let under = self.slots[child];
+            let beside = self.slots[child + 1];
+            if order.before(&beside, &under) {
+                return child + 1;
+            }
+        }
+        child
     }
 }
