@@ -5,7 +5,7 @@ use Rattle.std.proofs.lemmas.List.FromFn.{length-range_with_len, get_or-range_wi
 use Rattle.std.proofs.lemmas.List.{take_all}
 use Rattle.printout.specs.declared.page.Page.{Page}
 use Rattle.printout.specs.Pages.{memory, Appends}
-use Rattle.printout.proofs.Pages.{appends_none, appends_same, each_fits, each_more}
+use Rattle.printout.proofs.Pages.{appends_same, each_fits, each_more}
 
 -- the texts of the first i numbers are written, of n in all
 abbrev pub Written : (ℕ → List ℕ) → ℕ → ℕ → Page → Page → Type 0
@@ -14,9 +14,6 @@ Written f n i p q = Appends p (flat_map f (take i (range_with_len 0 n))) q
 module _ (f : ℕ → List ℕ) (n : ℕ) where
   number_at : (i : ℕ) → i < n → get_or (range_with_len 0 n) i 0 ≡ i
   number_at i h = get_or-range_with_len 0 n i 0 h ∙ zero-add i
-
-  pub written_none : (p : Page) → p.len + length (flat_map f (range_with_len 0 n)) ≤ length (memory p) → Written f n 0 p p
-  written_none p fits = appends_none p (omega arith)
 
   module _ (i : ℕ) (p q : Page) (h : i < n) (before : Written f n i p q) where
     there : i < length (range_with_len 0 n)

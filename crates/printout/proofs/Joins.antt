@@ -14,12 +14,6 @@ module _ {X A : Type 0} (f : X → List A) where
   joined_within (x ∷ xs) (suc i) =
       omega (arith, joined_within xs i, length-append (f x) (flat_map f (take i xs)), length-append (f x) (flat_map f xs))
 
-  -- the text of one element behind those before it
-  pub joined_room : (xs : List X) (i : ℕ) (d : X) → i < length xs → length (flat_map f (take i xs)) + length (f (get_or xs i d)) ≤ length (flat_map f xs)
-  joined_room xs i d h =
-      let sizes = sym (length-append (flat_map f (take i xs)) (f (get_or xs i d))) ∙ ap length (joined_next [] xs i d h) in
-      omega (arith, joined_within xs (i + 1))
-
   pub length_joined_le : (c : ℕ) (xs : List X) → AllByRecursion (λ x. length (f x) ≤ c) xs → length (flat_map f xs) ≤ c * length xs
   length_joined_le c [] h = omega arith
   length_joined_le c (x ∷ xs) h =

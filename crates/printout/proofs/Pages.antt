@@ -1,11 +1,11 @@
 -- One text after another on a page.
-use Rattle.std.proofs.Common.{◌≡◌, ℕ, ◌+◌, ◌-◌, ◌<◌, ◌≤◌, List, [], ◌++◌, length, get_or, take, drop, sym, refl, ap, ◌∙◌, subst, arith}
-use borrow.Rule.Slice.PartMut.{put_mid}
+use Rattle.std.proofs.Common.{◌≡◌, ℕ, ◌+◌, ◌<◌, ◌≤◌, List, [], ◌++◌, length, get_or, take, drop, sym, refl, ap, ◌∙◌, subst, arith}
 use Rattle.std.specs.List.{flat_map}
 use Rattle.std.proofs.lemmas.List.{append_assoc, length-append, length-take-le, length-drop, take_at, take-append-drop, drop_at, drop-drop}
+use Rattle.std.proofs.lemmas.List.Folds.{length-flat_map-take}
 use Rattle.printout.specs.declared.page.Page.{Page}
 use Rattle.printout.specs.Pages.{memory, Appends}
-use Rattle.printout.proofs.Joins.{joined_next, joined_room}
+use Rattle.printout.proofs.Joins.{joined_next}
 
 -- what is written is just the text; behind it the memory is as it was when it held old
 pub record Holds (text old : List ℕ) (p : Page) : Type 0 where
@@ -102,24 +102,10 @@ holds_fits t s old p h fits =
     let room = ap length h.front ∙ length-append t (drop (length t) old) in
     omega (arith, length-drop (length t) old)
 
--- what a copy to the bytes from n on leaves
-pub copied_over : (m part text : List ℕ) (n : ℕ) → part ≡ text → put_mid n (n + length text - n) m part ≡ take n m ++ (text ++ drop (n + length text) m)
-copied_over m part text n is =
-    let size : n + length text - n ≡ length text = omega arith in
-    let left = ap (λ k. drop k (drop n m)) size ∙ drop-drop (length text) n m in
-    λ k. take n m ++ (is k ++ left k)
-
--- where two texts fit, the first does, and behind it the second
-pub fits_first : (p : Page) (s t : List ℕ) → p.len + length (s ++ t) ≤ length (memory p) → p.len + length s ≤ length (memory p)
-fits_first p s t fits = omega (arith, length-append s t)
-
-pub fits_rest : (p q : Page) (s t : List ℕ) → p.len + length (s ++ t) ≤ length (memory p) → Appends p s q → q.len + length t ≤ length (memory q)
-fits_rest p q s t fits h = room_left p q s (length t) h (omega (arith, length-append s t))
-
 -- a loop that appends a text for each element, behind what was written before it
 module _ {X : Type 0} (f : X → List ℕ) (xs : List X) (i : ℕ) (d : X) (p q : Page) (h : i < length xs) (before : Appends p (flat_map f (take i xs)) q) where
   pub each_fits : p.len + length (flat_map f xs) ≤ length (memory p) → q.len + length (f (get_or xs i d)) ≤ length (memory q)
-  each_fits fits = room_left p q (flat_map f (take i xs)) (length (f (get_or xs i d))) before (omega (arith, joined_room f xs i d h))
+  each_fits fits = room_left p q (flat_map f (take i xs)) (length (f (get_or xs i d))) before (omega (arith, length-flat_map-take f xs i d h))
 
   pub each_more : (r : Page) → Appends q (f (get_or xs i d)) r → Appends p (flat_map f (take (i + 1) xs)) r
   each_more r a = appends_same p r _ _ (joined_next f [] xs i d h) (appends_append p q r (flat_map f (take i xs)) (f (get_or xs i d)) before a)

@@ -1,24 +1,18 @@
 -- One word of a line after another.
-use Rattle.std.proofs.Common.{ℕ, ◌+◌, ◌<◌, ◌≤◌, List, [], ◌∷◌, ◌++◌, length, get_or, take, decimal, subst, arith}
+use Rattle.std.proofs.Common.{ℕ, ◌+◌, ◌<◌, ◌≤◌, List, [], ◌∷◌, length, get_or, take, decimal, subst, arith}
 use Rattle.std.specs.List.{flat_map}
-use Rattle.std.proofs.lemmas.List.{length-append, take_all}
+use Rattle.std.proofs.lemmas.List.{take_all}
+use Rattle.std.proofs.lemmas.List.Folds.{length-flat_map-take}
 use Rattle.printout.specs.declared.page.Page.{Page}
 use Rattle.printout.specs.Lines.{spaced, line_of}
 use Rattle.printout.specs.Pages.{memory, Appends}
-use Rattle.printout.proofs.Joins.{joined_next, joined_within, joined_room}
-use Rattle.printout.proofs.Pages.{room_left, appends_none, appends_same, appends_append}
+use Rattle.printout.proofs.Joins.{joined_next, joined_within}
+use Rattle.printout.proofs.Pages.{room_left, appends_same, appends_append}
 
 -- a page p has room for all words and the end of the line, and q is p with the words of the first i numbers
 pub record Worded (p : Page) (ns : List ℕ) (i : ℕ) (q : Page) : Type 0 where
   pub room : p.len + length (flat_map spaced ns) + 1 ≤ length (memory p)
   pub appends : Appends p (flat_map spaced (take i ns)) q
-
-pub line_begins : (p q : Page) (tag ns : List ℕ) → p.len + length (line_of tag ns) ≤ length (memory p) → Appends p tag q → Worded q ns 0 q
-line_begins p q tag ns fits h =
-    let all = length-append tag (flat_map spaced ns ++ (10 ∷ [])) in
-    let end = length-append (flat_map spaced ns) (10 ∷ []) in
-    let left = room_left p q tag (length (flat_map spaced ns) + 1) h (omega arith) in
-    record { room = omega arith; appends = appends_none q (omega arith) }
 
 module _ (p q : Page) (ns : List ℕ) (i : ℕ) (w : Worded p ns i q) where
   room : p.len + length (flat_map spaced ns) + 1 ≤ length (memory p)
@@ -27,7 +21,7 @@ module _ (p q : Page) (ns : List ℕ) (i : ℕ) (w : Worded p ns i q) where
   pub word_fits : i < length ns → q.len + length (spaced (get_or ns i 0)) ≤ length (memory q)
   word_fits h =
       let all = room in
-      room_left p q (flat_map spaced (take i ns)) (length (spaced (get_or ns i 0))) w.appends (omega (arith, joined_room spaced ns i 0 h))
+      room_left p q (flat_map spaced (take i ns)) (length (spaced (get_or ns i 0))) w.appends (omega (arith, length-flat_map-take spaced ns i 0 h))
 
   pub worded_more : (r s : Page) → i < length ns → Appends q (32 ∷ []) r → Appends r (decimal (get_or ns i 0)) s → Worded p ns (i + 1) s
   worded_more r s h space digits =

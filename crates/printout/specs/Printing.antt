@@ -2,16 +2,17 @@
 use Rattle.std.specs.Prelude.{◌≡◌, ℕ, List, ◌++◌, length, drop, None, Option, Result, nat_le}
 use Rattle.std.specs.Io.KnownBytes.{Appends}
 use Rattle.refusal.specs.declared.Layer.TheVariants.{Running}
+use Rattle.refusal.specs.declared.Lent.TheVariants.{Text}
 use Rattle.refusal.specs.declared.Refusal.{Refusal}
-use Rattle.refusal.specs.Refusals.{Complaint, number_of, check}
+use Rattle.refusal.specs.Refusals.{Complaint, number_of, place_of, check}
 use Rattle.refusal.specs.declared.Fault.TheVariants.{Memory}
 use Rattle.plan.specs.declared.plans.Plan.{Plan}
 use Rattle.placement.specs.Placing.{PlacesFile}
 use Rattle.printout.specs.Texts.{text_of}
 
--- memory for a text is refused under 16384 bytes; place 3 stands for the text
+-- memory for a text is refused under 16384 bytes
 abbrev pub about_memory : ℕ → Option Complaint
-about_memory room = check (nat_le 16384 room) (record { number = number_of Memory; layer = Running; place = 3 }) None
+about_memory room = check (nat_le 16384 room) (record { number = number_of Memory; layer = Running; place = place_of Text }) None
 
 -- the first n bytes are the text of what placing the file gives, which is one text, and the others stay as they were
 pub record Printed (bytes before after : List ℕ) (n : ℕ) : Type 0 where

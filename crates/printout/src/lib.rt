@@ -8,7 +8,7 @@ ghost use Rattle.printout.specs.Printing.{about_memory, Printed, PrintedTo};
 use lines::text_lines;
 use page::Page;
 use placement::place_file;
-use refusal::{Fault, Layer, Refusal};
+use refusal::{Fault, Layer, Lent, Refusal};
 use std::io;
 use std::io::Write;
 
@@ -18,16 +18,13 @@ mod page;
 // The least memory that a text is written to: every text fits it.
 pub const TEXT_BYTES: usize = 16384;
 
-// Which of the memories that a caller lends is too small: here it is the text.
-const TEXT_PLACE: u64 = 3;
-
 // Prints the plan of a set file, or the refusal of it, and answers how many bytes the text has.
 pub fn print_file(bytes: &[u8], text: &mut [u8]) -> Result<usize, Refusal>
     ensures prints { Answers (about_memory (length text.old)) result (Printed bytes.now text.old text.new) }
     ensures lent { MatchResult result (λ n. n ≤ length text.new) (λ _. text.new ≡ text.old) }
 {
     if text.len() < TEXT_BYTES {
-        return Err(Fault::Memory.at(Layer::Running, TEXT_PLACE));
+        return Err(Fault::Memory.at(Layer::Running, Lent::Text.place()));
     }
     Ok(print_into(bytes, text))
 }

@@ -4,6 +4,8 @@ use Rattle.refusal.specs.declared.Fault.{Fault}
 use Rattle.refusal.specs.declared.Fault.TheVariants.{Short, Long, Size, Period, Cost, Heavy, Full, Memory}
 use Rattle.refusal.specs.declared.Layer.{Layer}
 use Rattle.refusal.specs.declared.Layer.TheVariants.{File, Set, Placement, Running}
+use Rattle.refusal.specs.declared.Lent.{Lent}
+use Rattle.refusal.specs.declared.Lent.TheVariants.{Text}
 use Rattle.refusal.specs.declared.Refusal.{Refusal}
 
 abbrev pub number_of : Fault → ℕ
@@ -21,6 +23,9 @@ word_of File = codes "file"
 word_of Set = codes "set"
 word_of Placement = codes "placement"
 word_of Running = codes "running"
+
+abbrev pub place_of : Lent → ℕ
+place_of Text = 3
 
 -- what a refusal says: a number, the layer that found the fault, and a place
 pub record Complaint : Type 0 where

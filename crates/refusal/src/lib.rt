@@ -2,7 +2,7 @@
 #![tactic(auto)]
 
 ghost use Rattle.std.specs.Prelude.{◌≡◌, Some};
-ghost use Rattle.refusal.specs.Refusals.{number_of, word_of, refusal_text};
+ghost use Rattle.refusal.specs.Refusals.{number_of, word_of, place_of, refusal_text};
 
 use std::error::Error;
 use std::fmt;
@@ -76,6 +76,22 @@ impl fmt::Display for Layer {
 
     fn fmt<W: fmt::Write>(&self, f: &mut fmt::Formatter<W>) -> fmt::Result {
         f.write_str(self.word())
+    }
+}
+
+// Memory that a caller lends, with the place that stands for it where it is too small.
+#[derive(Clone, Copy, Debug, PartialEq, Eq, Hash)]
+pub enum Lent {
+    // for a text
+    Text = 3,
+}
+
+impl Lent {
+    // The place of a refusal of this memory.
+    pub fn place(self) -> u64
+        ensures { result ≡ place_of self }
+    {
+        self as u64
     }
 }
 

@@ -1,10 +1,7 @@
 use Rattle.std.proofs.Common.{arith}
 use Rattle.printout.proofs.Pages.{room_left}
-use Rattle.printout.proofs.Words.{line_begins, word_fits, worded_more, end_fits, line_ends}
+use Rattle.printout.proofs.Words.{word_fits, worded_more, end_fits, line_ends}
 use Rattle.printout.proofs.page.Page.line.Goals as goal
-
-pub loop-n-init : goal.loop-n-init
-loop-n-init c = line_begins _ _ _ _ c.requires c.put.ensures
 
 pub put-requires-in-loop-n : goal.put-requires-in-loop-n
 put-requires-in-loop-n c = end_fits _ _ _ _ c.loop-n.invariant
@@ -16,9 +13,6 @@ number-requires c =
 
 pub loop-n-preserved : goal.loop-n-preserved
 loop-n-preserved c = worded_more _ _ _ _ c.loop-n.invariant _ _ c.loop-n-test.true c.put-in-loop-n.ensures c.number.ensures
-
-pub put-requires-2 : goal.put-requires-2
-put-requires-2 c = end_fits _ _ _ _ c.loop-n.invariant
 
 pub returns : goal.returns
 returns c = line_ends _ _ _ _ c.loop-n.invariant _ _ _ c.loop-n-test.false c.put.ensures c.put-2.ensures
