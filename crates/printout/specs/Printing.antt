@@ -4,7 +4,7 @@ use Rattle.std.specs.Io.KnownBytes.{Appends}
 use Rattle.refusal.specs.declared.Layer.TheVariants.{Running}
 use Rattle.refusal.specs.declared.Lent.TheVariants.{Text}
 use Rattle.refusal.specs.declared.Refusal.{Refusal}
-use Rattle.refusal.specs.Refusals.{Complaint, number_of, place_of, check}
+use Rattle.refusal.specs.Refusals.{Complaint, number_of, place_of_lent, check}
 use Rattle.refusal.specs.declared.Fault.TheVariants.{Memory}
 use Rattle.plan.specs.declared.plans.Plan.{Plan}
 use Rattle.placement.specs.Placing.{PlacesFile}
@@ -12,7 +12,7 @@ use Rattle.printout.specs.Texts.{text_of}
 
 -- memory for a text is refused under 16384 bytes
 abbrev pub about_memory : ℕ → Option Complaint
-about_memory room = check (nat_le 16384 room) (record { number = number_of Memory; layer = Running; place = place_of Text }) None
+about_memory room = check (nat_le 16384 room) (record { number = number_of Memory; layer = Running; place = place_of_lent Text }) None
 
 -- the first n bytes are the text of what placing the file gives, which is one text, and the others stay as they were
 pub record Printed (bytes before after : List ℕ) (n : ℕ) : Type 0 where

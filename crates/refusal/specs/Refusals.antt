@@ -24,8 +24,8 @@ word_of Set = codes "set"
 word_of Placement = codes "placement"
 word_of Running = codes "running"
 
-abbrev pub place_of : Lent → ℕ
-place_of Text = 3
+abbrev pub place_of_lent : Lent → ℕ
+place_of_lent Text = 3
 
 -- what a refusal says: a number, the layer that found the fault, and a place
 pub record Complaint : Type 0 where

@@ -2,7 +2,7 @@
 #![tactic(auto)]
 
 ghost use Rattle.std.specs.Prelude.{◌≡◌, Some};
-ghost use Rattle.refusal.specs.Refusals.{number_of, word_of, place_of, refusal_text};
+ghost use Rattle.refusal.specs.Refusals.{number_of, word_of, place_of_lent, refusal_text};
 
 use std::error::Error;
 use std::fmt;
@@ -89,7 +89,7 @@ pub enum Lent {
 impl Lent {
     // The place of a refusal of this memory.
     pub fn place(self) -> u64
-        ensures { result ≡ place_of self }
+        ensures { result ≡ place_of_lent self }
     {
         self as u64
     }
