@@ -5,7 +5,8 @@ ghost use Rattle.printout.specs.Pages.{memory, Fits, Appends};
 
 use itoa::Buffer;
 
-// The first `len` bytes are written so far. The memory is the caller's, so its length stands beside it.
+// The first `len` bytes are written so far. The memory is the caller's, so how much is written stands beside it.
+// `write!` into it was tried: its contract lets any writer fail (`unwrap-requires` stays open), and here nothing may.
 #[derive(Drop)]
 pub(crate) struct Page<'a> {
     bytes: &'a mut [u8],
