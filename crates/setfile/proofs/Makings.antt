@@ -10,7 +10,7 @@ use Rattle.refusal.specs.declared.Refusal.{Refusal}
 use Rattle.set.specs.Limits.{about_sizes, about_figures}
 use Rattle.set.specs.Models.{slots_of}
 use Rattle.set.specs.declared.figures.Figures.{Figures}
-use Rattle.set.specs.Sets.{models_of, Made, about}
+use Rattle.set.specs.Sets.{models_of, costs_of, periods_of, Made, about}
 use Rattle.set.specs.declared.sizes.Sizes.{Sizes}
 use Rattle.set.specs.declared.sets.Set.{Set}
 use Rattle.refusal.proofs.Firsts.{passed}
@@ -33,8 +33,8 @@ level_from workers group grain costs periods none = eqb-true (length costs) (len
 module _ (workers group grain : ℕ) (costs periods : List ℕ) (level : length costs ≡ length periods) (s : Set) (made : Made workers group grain costs periods s) where
   made_models : first_costs s ++ first_periods s ≡ costs ++ periods
   made_models =
-      let front = first_of (models_of s) costs s.costs made.models made.costs' in
-      let rest = first_of (models_of s) periods s.periods (made.models ∙ level) made.periods' in
+      let front = first_of (models_of s) costs (costs_of s) made.models made.costs' in
+      let rest = first_of (models_of s) periods (periods_of s) (made.models ∙ level) made.periods' in
       cc
 
   made_words : words_of s ≡ length costs ∷ (workers ∷ (group ∷ (grain ∷ (costs ++ periods))))
