@@ -1,17 +1,11 @@
 -- What the sizes at the head of a file leave to be at fault.
-use Rattle.std.proofs.Common.{◌≡◌, ℕ, ◌+◌, ◌*◌, ◌<◌, ◌≤◌, List, length, Some, None, refl, ◌∙◌, arith}
-use Rattle.std.proofs.lemmas.Bool.{le-leb, lt-leb}
-use Rattle.refusal.specs.Refusals.{Complaint}
+use Rattle.std.proofs.Common.{◌≡◌, ℕ, ◌+◌, ◌*◌, ◌≤◌, List, length, None, refl, ◌∙◌, arith}
+use Rattle.std.proofs.lemmas.Bool.{le-leb}
 use Rattle.set.specs.Limits.{about_sizes, about_models}
 use Rattle.set.specs.declared.sizes.Sizes.{Sizes}
 use Rattle.setfile.specs.Format.{word_at, words_at}
-use Rattle.setfile.specs.Reading.{size_for, too_short, too_long, about_file}
+use Rattle.setfile.specs.Reading.{size_for, about_file}
 use Rattle.setfile.proofs.Faultless.{good_sizes}
-
--- the first fault is in the sizes
-pub bad_sizes : (bytes : List ℕ) (models workers group grain : ℕ) (complaint : Complaint) → about_sizes models workers group grain ≡ Some complaint → 16 ≤ length bytes → models ≡ word_at bytes 0 → workers ≡ word_at bytes 4 → group ≡ word_at bytes 8 → grain ≡ word_at bytes 12 → about_file bytes ≡ Some complaint
-bad_sizes bytes models workers group grain complaint bad long e₀ e₁ e₂ e₃ =
-    rw (le-leb 16 (length bytes) long, ← e₀, ← e₁, ← e₂, ← e₃, bad) refl
 
 -- a file begins with good sizes
 pub record Heads (bytes : List ℕ) (sizes : Sizes) : Type 0 where
@@ -33,14 +27,6 @@ heads_from bytes sizes is long models workers group grain = record {
 module _ (bytes : List ℕ) (sizes : Sizes) (heads : Heads bytes sizes) where
   good_head : about_sizes (word_at bytes 0) (word_at bytes 4) (word_at bytes 8) (word_at bytes 12) ≡ None
   good_head = rw (← heads.models', ← heads.workers', ← heads.group', ← heads.grain') (good_sizes sizes)
-
-  pub bad_short : length bytes < size_for sizes.models → about_file bytes ≡ Some (too_short (length bytes))
-  bad_short short =
-      rw (le-leb 16 (length bytes) heads.long, good_head, ← heads.models', lt-leb (size_for sizes.models) (length bytes) short) refl
-
-  pub bad_long : (size : ℕ) → size ≡ size_for sizes.models → size < length bytes → about_file bytes ≡ Some (too_long size)
-  bad_long size is over =
-      rw (is, le-leb 16 (length bytes) heads.long, good_head, ← heads.models', le-leb (size_for sizes.models) (length bytes) (omega arith), lt-leb (length bytes) (size_for sizes.models) (omega arith)) refl
 
   -- at the right length only the models are left
   pub past_header : length bytes ≡ size_for sizes.models → about_file bytes ≡ about_models sizes.grain (words_at bytes 16 sizes.models) (words_at bytes (16 + 4 * sizes.models) sizes.models)
