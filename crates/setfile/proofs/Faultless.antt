@@ -1,6 +1,5 @@
 -- A set has no fault, and its numbers are small.
-use Rattle.std.proofs.Common.{◌≡◌, ℕ, ◌+◌, ◌%◌, ◌<◌, ◌≤◌, List, length, get_or, take, None, ◌∙◌, ⊎_elim, mod-eq_of_lt, arith}
-use Rattle.std.proofs.lemmas.Bool.{cases_lt}
+use Rattle.std.proofs.Common.{◌≡◌, ℕ, ◌+◌, ◌%◌, ◌<◌, ◌≤◌, List, length, get_or, take, None, ◌∙◌, mod-eq_of_lt, arith}
 use Rattle.std.proofs.lemmas.Bool.Decides.{nat_tests}
 use Rattle.std.proofs.lemmas.Grind.{common_steps}
 use Rattle.std.proofs.lemmas.List.{ext_get_or, length-map, length-take-le, get_or-take}
@@ -20,11 +19,7 @@ good_model : (grain model cost period : ℕ) → (1 ≤ period) × (grain % peri
 good_model grain model cost period timed costed = grind (arith, nat_tests)
 
 divisor_le : (grain period : ℕ) → 1 ≤ grain → grain % period ≡ 0 → period ≤ grain
-divisor_le grain period some h =
-    ⊎_elim
-    (λ (lt : grain < period). omega (arith, mod-eq_of_lt lt))
-    (λ (le : period ≤ grain). le)
-    (cases_lt grain period)
+divisor_le grain period some h = grind (arith, mod-eq_of_lt)
 
 -- slots that are 0 from n on are made by the first n
 slots_from : (n : ℕ) (slots : List ℕ) → n ≤ 64 → length slots ≡ 64 → ((i : ℕ) → n ≤ i → get_or slots i 0 ≡ 0) → slots ≡ slots_of (take n slots)

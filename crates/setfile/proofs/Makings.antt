@@ -1,26 +1,25 @@
--- Figures that are read from a file, and figures that are written to one.
-use Rattle.std.proofs.Common.{◌≡◌, ℕ, ◌+◌, ◌-◌, ◌*◌, ◌<◌, ◌≤◌, List, ◌∷◌, ◌++◌, length, get_or, take, replicate, None, Ok, Err, Result, sym, refl, ap, ◌∙◌, arith}
+-- Figures that are read from a file.
+use Rattle.std.proofs.Common.{◌≡◌, ℕ, ◌+◌, ◌*◌, ◌<◌, List, ◌∷◌, ◌++◌, length, get_or, take, Ok, Err, Result, sym, ap, ◌∙◌, arith}
 use Rattle.std.specs.List.{flat_map}
-use Rattle.std.proofs.lemmas.List.{length-append, take_at}
+use Rattle.std.proofs.lemmas.List.{length-append}
+use Rattle.std.proofs.lemmas.Grind.{common_steps}
 use Rattle.std.proofs.lemmas.List.FromFn.{length-map-range_with_len}
-use Rattle.std.proofs.lemmas.Bool.{le-leb}
 use Rattle.refusal.specs.Refusals.{Answers}
 use Rattle.refusal.specs.declared.Refusal.{Refusal}
 use Rattle.set.specs.Limits.{about_sizes, about_figures}
 use Rattle.set.specs.Models.{slots_of}
-use Rattle.set.specs.declared.figures.Figures.{Figures}
-use Rattle.set.specs.Sets.{models_of, costs_of, periods_of, Made, about}
+use Rattle.set.specs.Sets.{models_of, costs_of, periods_of, Made}
 use Rattle.set.specs.declared.sizes.Sizes.{Sizes}
 use Rattle.set.specs.declared.sets.Set.{Set}
 use Rattle.set.proofs.Faults.{past_sizes}
 use Rattle.setfile.specs.Format.{word_bytes, word_at, words_at, words_of, file_of}
-use Rattle.setfile.specs.Reading.{size_for, about_file, about_writing, Reads}
+use Rattle.setfile.specs.Reading.{size_for, about_file, Reads}
 use Rattle.setfile.proofs.Faultless.{first_costs, first_periods, good_sizes}
 use Rattle.setfile.proofs.Headers.{Heads, past_header}
 use Rattle.setfile.proofs.Rows.{Row, row_joined, row_header, row_append, read_row}
 
 first_of : (n : ℕ) (xs slots : List ℕ) → n ≡ length xs → slots ≡ slots_of xs → take n slots ≡ xs
-first_of n xs slots e is = rw (e, is) (take_at xs (replicate (64 - length xs) 0) (length xs) refl)
+first_of n xs slots e is = grind (arith, common_steps)
 
 -- figures make a set
 module _ (workers group grain : ℕ) (costs periods : List ℕ) (level : length costs ≡ length periods) (s : Set) (made : Made workers group grain costs periods s) where
@@ -32,10 +31,6 @@ module _ (workers group grain : ℕ) (costs periods : List ℕ) (level : length 
 
   made_words : words_of s ≡ length costs ∷ (workers ∷ (group ∷ (grain ∷ (costs ++ periods))))
   made_words = cc made_models
-
--- figures without a fault fit into room for their file
-pub room_enough : (f : Figures) (room : ℕ) → about f ≡ None → size_for (length f.costs.now) ≤ room → about_writing f room ≡ None
-room_enough f room none enough = rw (none, le-leb (size_for (length f.costs.now)) room enough) refl
 
 -- bytes that begin with sizes and have the length that they ask for
 module _ (bytes : List ℕ) (fits : (i : ℕ) → get_or bytes i 0 < 256) (sizes : Sizes) (heads : Heads bytes sizes) (level : length bytes ≡ size_for sizes.models) where

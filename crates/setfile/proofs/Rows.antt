@@ -1,12 +1,11 @@
 -- Words that stand in a row in some bytes.
-use Rattle.std.proofs.Common.{◌≡◌, ℕ, zero, suc, ◌+◌, ◌-◌, ◌*◌, ◌^◌, ◌<◌, ◌≤◌, List, [], ◌∷◌, ◌++◌, length, get_or, take, drop, sym, ap, ◌∙◌, ⊎_elim, add_assoc, arith, w32}
+use Rattle.std.proofs.Common.{◌≡◌, ℕ, zero, suc, ◌+◌, ◌-◌, ◌*◌, ◌^◌, ◌<◌, ◌≤◌, List, [], ◌∷◌, ◌++◌, length, get_or, take, drop, sym, ap, ◌∙◌, add_assoc, arith, w32}
 use Rattle.std.specs.Int.{from_le_bytes}
 use Rattle.std.specs.Simd.{first_chunks}
 use Rattle.std.specs.List.{flat_map, AllByRecursion}
 use Rattle.std.proofs.lemmas.Nat.{from_le_bytes-to_le_bytes_4}
-use Rattle.std.proofs.lemmas.Bool.{cases_lt}
 use Rattle.std.proofs.lemmas.Grind.{common_steps}
-use Rattle.std.proofs.lemmas.List.{length-append, length-drop, get_or-drop, get_or_append_left, get_or-append_right, get_or-append-add, get_or-take, length-take-le, take_all, nil_from_length, take-append-drop}
+use Rattle.std.proofs.lemmas.List.{length-drop, get_or-drop, get_or-take, length-take-le, take_all, nil_from_length, take-append-drop}
 use Rattle.std.proofs.lemmas.List.FromFn.{get_or-map-range_with_len, length-map-range_with_len, fill_by_all}
 use Rattle.setfile.specs.Format.{word_bytes, word_at, words_at}
 use Rattle.setfile.proofs.Bytes.{word_spelled}
@@ -16,15 +15,14 @@ abbrev pub Row : List ℕ → ℕ → List ℕ → Type 0
 Row bytes at ws = (i : ℕ) → i < length ws → word_at bytes (at + 4 * i) ≡ get_or ws i 0
 
 word_at-drop : (bytes : List ℕ) (n at : ℕ) → word_at (drop n bytes) at ≡ word_at bytes (n + at)
-word_at-drop bytes n at = simp (get_or-drop, add_assoc)
+word_at-drop bytes n at = grind (arith, common_steps)
 
 -- the words of the bytes taken by four
 pub word_at-first_chunks : (bytes : List ℕ) (n i : ℕ) → i < n → from_le_bytes w32 (get_or (first_chunks 4 n bytes) i []) ≡ word_at bytes (4 * i)
 word_at-first_chunks bytes zero i h = absurd (omega arith)
 word_at-first_chunks bytes (suc n) zero h = grind (arith, common_steps)
 word_at-first_chunks bytes (suc n) (suc i) h =
-    let next : 4 + 4 * i ≡ 4 * suc i = omega arith in
-    word_at-first_chunks (drop 4 bytes) n i (omega arith) ∙ word_at-drop bytes 4 (4 * i) ∙ ap (word_at bytes) next
+    let t = word_at-first_chunks (drop 4 bytes) n i (omega arith) in grind (arith, word_at-drop)
 
 module _ (bytes : List ℕ) (at : ℕ) where
   pub row_cons : (w : ℕ) (ws : List ℕ) → word_at bytes at ≡ w → Row bytes (at + 4) ws → Row bytes at (w ∷ ws)
@@ -34,28 +32,17 @@ module _ (bytes : List ℕ) (at : ℕ) where
       ap (word_at bytes) next ∙ rest i (omega arith)
 
   pub row_append : (xs ys : List ℕ) (n : ℕ) → length xs ≡ n → Row bytes at xs → Row bytes (at + 4 * n) ys → Row bytes at (xs ++ ys)
-  row_append xs ys n e front rest i h =
-      ⊎_elim
-      (λ (lt : i < length xs). front i lt ∙ sym (get_or_append_left xs ys 0 i lt))
-      (λ (le : length xs ≤ i).
-      let there : at + 4 * i ≡ at + 4 * n + 4 * (i - n) = omega arith in
-      ap (word_at bytes) there
-      ∙ rest (i - n) (omega (arith, length-append xs ys))
-      ∙ sym (get_or-append_right xs ys n i 0 e (omega arith)))
-      (cases_lt i (length xs))
+  row_append xs ys n e front rest i h = grind (arith, common_steps, front i, rest (i - n))
 
   pub row_front : (xs ys : List ℕ) → Row bytes at (xs ++ ys) → Row bytes at xs
-  row_front xs ys row i h = row i (omega (arith, length-append xs ys)) ∙ get_or_append_left xs ys 0 i h
+  row_front xs ys row i h = grind (arith, common_steps, row i)
 
   pub row_rest : (xs ys : List ℕ) (n : ℕ) → length xs ≡ n → Row bytes at (xs ++ ys) → Row bytes (at + 4 * n) ys
-  row_rest xs ys n e row i h =
-      let there : at + 4 * n + 4 * i ≡ at + 4 * (length xs + i) = omega arith in
-      ap (word_at bytes) there ∙ row (length xs + i) (omega (arith, length-append xs ys)) ∙ get_or-append-add xs ys i 0
+  row_rest xs ys n e row i h = grind (arith, common_steps, row (n + i))
 
   -- what is read in a row stands there, and nothing else does
   pub read_row : (n : ℕ) → Row bytes at (words_at bytes at n)
-  read_row n i h =
-      sym (get_or-map-range_with_len (λ k. word_at bytes (at + 4 * k)) 0 n i i 0 (omega (arith, length-map-range_with_len (λ k. word_at bytes (at + 4 * k)) 0 n)) (omega arith))
+  read_row n i h = grind (arith, get_or-map-range_with_len, length-map-range_with_len)
 
   pub row_read : (ws : List ℕ) (n : ℕ) → length ws ≡ n → Row bytes at ws → words_at bytes at n ≡ ws
   row_read ws n level row =
@@ -68,7 +55,7 @@ words_read bytes at n most ws each fewer few within =
     (λ i h. get_or-take n ws i 0 h ∙ each i (omega arith) (omega (arith, ap length rest, length-drop at bytes)) ∙ ap (λ bs. word_at bs (4 * i)) rest ∙ word_at-drop bytes at (4 * i))
   where
     rest : take (length bytes - at) (drop at bytes) ≡ drop at bytes
-    rest = take_all (length bytes - at) (drop at bytes) (omega (arith, length-drop at bytes))
+    rest = take_all (length bytes - at) (drop at bytes) (grind (arith, common_steps))
 
 pub row_header : (bytes : List ℕ) (a b c d : ℕ) (ws : List ℕ) → word_at bytes 0 ≡ a → word_at bytes 4 ≡ b → word_at bytes 8 ≡ c → word_at bytes 12 ≡ d → Row bytes 16 ws → Row bytes 0 (a ∷ (b ∷ (c ∷ (d ∷ ws))))
 row_header bytes a b c d ws ea eb ec ed rest =

@@ -1,14 +1,11 @@
 // Set files: a set as 32-bit little-endian words, read and written.
 #![tactic(auto)]
 
-ghost use Rattle.std.specs.Prelude.{◌≡◌, ℕ, ◌+◌, ◌*◌, ◌<◌, ◌≤◌, List, length, take, Ok, MatchResult, slice_index};
-ghost use Rattle.std.proofs.Math.Seq.{paste};
-ghost use Rattle.std.specs.List.{flat_map};
-ghost use Rattle.refusal.specs.Refusals.{Answers, number_of, told};
-ghost use Rattle.refusal.specs.declared.Layer.TheVariants.{File};
+ghost use Rattle.std.specs.Prelude.{◌≡◌, ℕ, ◌+◌, ◌*◌, ◌<◌, ◌≤◌, List, length, Ok, MatchResult, slice_index};
+ghost use Rattle.refusal.specs.Refusals.{Answers};
 ghost use Rattle.set.specs.declared.sets.Set.{Set};
 ghost use Rattle.set.specs.Sets.{models_of};
-ghost use Rattle.setfile.specs.Format.{file_of, word_bytes, word_at, words_at};
+ghost use Rattle.setfile.specs.Format.{file_of, word_at};
 ghost use Rattle.setfile.specs.Reading.{Reads, Wrote, about_writing, size_for};
 
 use refusal::{Fault, Layer, Refusal};
@@ -36,8 +33,9 @@ pub fn read(bytes: &[u8]) -> Result<Set, Refusal>
     if bytes.len() > size {
         return Err(Fault::Long.at(Layer::File, size as u64));
     }
-    let costs: [u32; MODELS] = words(&bytes[16..]);
-    let periods: [u32; MODELS] = words(&bytes[16 + 4 * count..]);
+    // the tables have room for the most models, since nothing allocates
+    let costs = words::<MODELS>(&bytes[16..]);
+    let periods = words::<MODELS>(&bytes[16 + 4 * count..]);
     let figures = Figures {
         workers: sizes.workers,
         group_size: sizes.group_size,
@@ -79,10 +77,10 @@ fn put_file(set: &Set, place: &mut [u8])
     let costs = set.models.map(|model| model.cost).map(u32::to_le_bytes);
     let periods = set.models.map(|model| model.period).map(u32::to_le_bytes);
     let (header, rows) = place.split_at_mut(16);
-    let (first, second) = rows.split_at_mut(4 * count);
+    let (cost_row, period_row) = rows.split_at_mut(4 * count);
     header.copy_from_slice(sizes.as_flattened());
-    first.copy_from_slice(costs[..count].as_flattened());
-    second.copy_from_slice(periods[..count].as_flattened());
+    cost_row.copy_from_slice(costs[..count].as_flattened());
+    period_row.copy_from_slice(periods[..count].as_flattened());
 }
 
 // The bytes of a file with this many models.
@@ -93,7 +91,7 @@ fn file_size(models: usize) -> usize
     16 + 8 * models
 }
 
-// The first N words of the bytes; those behind the end are 0.
+// The first N words of the bytes, and 0 for those behind the last whole one.
 fn words<const N: usize>(bytes: &[u8]) -> [u32; N]
     ensures { (i : ℕ) → i < N → 4 * i + 4 ≤ length bytes.now → slice_index result i ≡ word_at bytes.now (4 * i) }
 {
