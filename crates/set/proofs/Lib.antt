@@ -1,4 +1,5 @@
 pub mod Blanks
 pub mod Weights
 pub mod Faults
+pub mod Arrays
 pub mod Sames

@@ -1,27 +1,20 @@
 -- The laws of a weight.
-use Rattle.std.proofs.Common.{◌≡◌, ℕ, zero, suc, ◌*◌, ◌/◌, ◌%◌, ◌<◌, ◌≤◌, refl, ap, ◌∙◌, mul-le-mul_right, mul_assoc, mul_comm, div-add-mod', zero-mul, div-mul-le_self, arith}
-use native.Mathlib.Nat.{one-le-mul}
+use Rattle.std.proofs.Common.{◌≡◌, ℕ, ◌*◌, ◌/◌, ◌%◌, ◌<◌, ◌≤◌, refl, mul-le-mul_right, div-mul-le_self, arith}
 use Rattle.set.specs.declared.sets.Set.{Set}
 use Rattle.set.specs.Sets.{Weighs, models_of, grain_of, cost_of, period_of, weight_of}
 
 -- a period that divides the grain goes into it a whole number of times
-pub times : (grain period : ℕ) → grain % period ≡ 0 → grain / period * period ≡ grain
-times grain period h = omega (arith, div-add-mod' grain period)
+times : (grain period : ℕ) → grain % period ≡ 0 → grain / period * period ≡ grain
+times grain period h = grind arith
 
-pub weight_exact : (cost grain period : ℕ) → grain % period ≡ 0 → cost * (grain / period) * period ≡ cost * grain
-weight_exact cost grain period h = mul_assoc cost (grain / period) period ∙ ap (λ x. cost * x) (times grain period h)
+weight_exact : (cost grain period : ℕ) → grain % period ≡ 0 → cost * (grain / period) * period ≡ cost * grain
+weight_exact cost grain period h = grind (arith, times)
 
-pub weight_fits : (cost grain period : ℕ) → cost ≤ period → cost * (grain / period) ≤ grain
-weight_fits cost grain period h =
-    omega (arith, mul-le-mul_right (grain / period) h, mul_comm period (grain / period), div-mul-le_self grain period)
+weight_fits : (cost grain period : ℕ) → cost ≤ period → cost * (grain / period) ≤ grain
+weight_fits cost grain period h = grind (arith, div-mul-le_self, mul-le-mul_right)
 
-quotient_some : (q period grain : ℕ) → q * period ≡ grain → 1 ≤ grain → 1 ≤ q
-quotient_some zero period grain e h = omega (arith, zero-mul period)
-quotient_some (suc q) period grain e h = omega arith
-
-pub weight_some : (cost grain period : ℕ) → 1 ≤ cost → 1 ≤ grain → grain % period ≡ 0 → 1 ≤ cost * (grain / period)
-weight_some cost grain period some-cost some-grain h =
-    one-le-mul some-cost (quotient_some (grain / period) period grain (times grain period h) some-grain)
+weight_some : (cost grain period : ℕ) → 1 ≤ cost → 1 ≤ grain → grain % period ≡ 0 → 1 ≤ cost * (grain / period)
+weight_some cost grain period some-cost some-grain h = grind (arith, times)
 
 pub weighs : (set : Set) (i : ℕ) → i < models_of set → Weighs set i (weight_of set i)
 weighs set i h =

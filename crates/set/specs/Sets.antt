@@ -1,9 +1,10 @@
 -- What a set says of its models. The model in slot i has the number i + 1.
-use Rattle.std.specs.Prelude.{◌≡◌, ℕ, ◌*◌, ◌/◌, ◌≤◌, List, length, Option, slice_index}
+use Rattle.std.specs.Prelude.{◌≡◌, ℕ, ◌*◌, ◌/◌, ◌≤◌, List, length, map, Option, MatchOption}
 use Rattle.refusal.specs.Refusals.{Complaint}
 use Rattle.set.specs.Limits.{about_figures}
-use Rattle.set.specs.Models.{slots_of}
+use Rattle.set.specs.Models.{cost_at, period_at, slots_of}
 use Rattle.set.specs.declared.figures.Figures.{Figures}
+use Rattle.set.specs.declared.models.Model.{Model}
 use Rattle.set.specs.declared.sets.Set.{Set}
 
 module _ (set : Set) where
@@ -20,10 +21,17 @@ module _ (set : Set) where
   grain_of = set.sizes.grain
 
   abbrev pub cost_of : ℕ → ℕ
-  cost_of i = slice_index set.costs i
+  cost_of i = cost_at set.models i
 
   abbrev pub period_of : ℕ → ℕ
-  period_of i = slice_index set.periods i
+  period_of i = period_at set.models i
+
+  -- what stands in all 64 slots
+  abbrev pub costs_of : List ℕ
+  costs_of = map (λ (model : Model). model.cost) set.models
+
+  abbrev pub periods_of : List ℕ
+  periods_of = map (λ (model : Model). model.period) set.models
 
   -- the parts of a tick that a model needs on the average
   abbrev pub weight_of : ℕ → ℕ
@@ -39,8 +47,8 @@ pub record Made (workers group grain : ℕ) (costs periods : List ℕ) (set : Se
   pub workers' : set.sizes.workers ≡ workers
   pub group' : set.sizes.group_size ≡ group
   pub grain' : set.sizes.grain ≡ grain
-  pub costs' : set.costs ≡ slots_of costs
-  pub periods' : set.periods ≡ slots_of periods
+  pub costs' : costs_of set ≡ slots_of costs
+  pub periods' : periods_of set ≡ slots_of periods
 
 -- the set is made of just these figures
 abbrev pub MadeOf : Figures → Set → Type 0
@@ -51,9 +59,13 @@ abbrev pub about : Figures → Option Complaint
 about f = about_figures f.workers f.group_size f.grain f.costs.now f.periods.now
 
 -- a model of the set has this number
-pub record Model (set : Set) (model : ℕ) : Type 0 where
+pub record HasModel (set : Set) (model : ℕ) : Type 0 where
   pub first : 1 ≤ model
   pub last : model ≤ models_of set
+
+-- what P says of the answer, or none where the set has no model of this number
+abbrev pub OfModel : {A : Type 0} → Set → ℕ → Option A → (A → Type 0) → Type 0
+OfModel set model answer P = MatchOption answer (HasModel set model → ⊥) (λ x. HasModel set model × P x)
 
 -- w is the weight of a model: over each period it adds up to just the parts of a run, and one worker can give it
 pub record Weighs (set : Set) (i w : ℕ) : Type 0 where

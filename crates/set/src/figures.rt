@@ -1,20 +1,24 @@
-ghost use Rattle.std.specs.Prelude.{◌≡◌, ◌+◌, ◌≤◌, length, None};
+ghost use Rattle.std.specs.Prelude.{◌≡◌, length, map, None, slice_index};
+ghost use Rattle.std.specs.List.{range_with_len};
 ghost use Rattle.refusal.specs.Refusals.{Answers};
 ghost use Rattle.set.specs.Limits.{about_model, about_models};
-ghost use Rattle.set.specs.Models.{slots_of};
-ghost use Rattle.set.specs.Sets.{about, MadeOf};
+ghost use Rattle.set.specs.Models.{slot_from, slots_of};
+ghost use Rattle.set.specs.Sets.{about, costs_of, periods_of, MadeOf};
 
+use crate::models::Model;
 use crate::sets::Set;
 use crate::sizes::checks::outside;
-use crate::sizes::{MODELS, Sizes};
+use crate::sizes::{MODELS, SizeKind, Sizes};
 use refusal::{Fault, Layer, Refusal};
+use std::array;
 
 // What a planner brings, unchecked: the sizes, and for each model a cost and a period, both in ticks.
-#[derive(Clone, Copy)]
+#[derive(Clone, Copy, Debug, PartialEq, Eq, Hash)]
 pub struct Figures<'a> {
     pub workers: u32,
     pub group_size: u32,
     pub grain: u32,
+    // two slices, since a planner brings two lists, which are refused where they differ in length
     pub costs: &'a [u32],
     pub periods: &'a [u32],
 }
@@ -25,7 +29,7 @@ impl Figures<'_> {
         ensures { Answers (about self.now) result (MadeOf self.now) }
     {
         if self.costs.len() != self.periods.len() {
-            return Err(outside(1));
+            return Err(outside(SizeKind::Models));
         }
         let models = self.costs.len() as u64;
         let sizes = Sizes::new(models, self.workers, self.group_size, self.grain)?;
@@ -38,8 +42,8 @@ impl Figures<'_> {
         requires { length self.now.costs.now ≡ length self.now.periods.now }
         ensures { Answers (about_models self.now.grain self.now.costs.now self.now.periods.now) result (λ _. Unit {0}) }
     {
-        for i in 0..self.costs.len() {
-            check_model(self.grain, i as u64 + 1, self.costs[i], self.periods[i])?;
+        for (i, (cost, period)) in self.costs.iter().zip(self.periods).enumerate() {
+            check_model(self.grain, i as u64 + 1, *cost, *period)?;
         }
         Ok(())
     }
@@ -51,14 +55,23 @@ impl Figures<'_> {
         requires grain { sizes.grain ≡ self.now.grain }
         requires fine { about_models self.now.grain self.now.costs.now self.now.periods.now ≡ None }
         ensures sizes { result.sizes ≡ sizes }
-        ensures costs { result.costs ≡ slots_of self.now.costs.now }
-        ensures periods { result.periods ≡ slots_of self.now.periods.now }
+        ensures costs { costs_of result ≡ slots_of self.now.costs.now }
+        ensures periods { periods_of result ≡ slots_of self.now.periods.now }
     {
         Set {
             sizes,
-            costs: slots(self.costs),
-            periods: slots(self.periods),
+            models: slots(self.costs, self.periods),
         }
+    }
+}
+
+impl TryFrom<&Figures<'_>> for Set {
+    type Error = Refusal;
+
+    ghost try_from_gives = { λ figures r. Answers (about figures.now) r (MadeOf figures.now) };
+
+    fn try_from(figures: &Figures<'_>) -> Result<Set, Refusal> {
+        figures.check()
     }
 }
 
@@ -67,28 +80,27 @@ fn check_model(grain: u32, model: u64, cost: u32, period: u32) -> Result<(), Ref
     ensures { Answers (about_model grain model cost period) result (λ _. Unit {0}) }
 {
     if period == 0 || grain % period != 0 {
-        return Err(Refusal {
-            fault: Fault::Period,
-            layer: Layer::Set,
-            place: model,
-        });
+        return Err(Fault::Period.at(Layer::Set, model));
     }
     if cost == 0 || cost > period {
-        return Err(Refusal {
-            fault: Fault::Cost,
-            layer: Layer::Set,
-            place: model,
-        });
+        return Err(Fault::Cost.at(Layer::Set, model));
     }
     Ok(())
 }
 
-// The numbers in the first slots, and 0 behind them.
-fn slots(numbers: &[u32]) -> [u32; MODELS]
-    requires { length numbers.now ≤ 64 }
-    ensures { result ≡ slots_of numbers.now }
+// Each model of these costs and periods in its slot, and 0 behind the last.
+fn slots(costs: &[u32], periods: &[u32]) -> [Model; MODELS]
+    ensures { result ≡ map (slot_from costs.now periods.now) (range_with_len 0 64) }
 {
-    let mut slots = [0; MODELS];
-    slots[0..numbers.len()].copy_from_slice(numbers);
-    slots
+    array::from_fn(|i| Model {
+        cost: nth(costs, i),
+        period: nth(periods, i),
+    })
+}
+
+// The number in slot i, or 0 behind the last.
+fn nth(numbers: &[u32], i: usize) -> u32
+    ensures { result ≡ slice_index numbers.now i }
+{
+    numbers.get(i).copied().unwrap_or(0)
 }

@@ -2,5 +2,6 @@
 #![tactic(auto)]
 
 pub mod figures;
+pub mod models;
 pub mod sets;
 pub mod sizes;

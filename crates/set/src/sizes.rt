@@ -7,8 +7,17 @@ pub const WORKERS: usize = 32;
 
 pub const GRAIN: u32 = 100_800;
 
+// The four sizes, each with the place at which a refusal names it.
+#[derive(Clone, Copy, Debug, PartialEq, Eq, Hash)]
+pub enum SizeKind {
+    Models = 1,
+    Workers = 2,
+    GroupSize = 3,
+    Grain = 4,
+}
+
 // How many models, workers, workers to a group and parts to a tick there are.
-#[derive(Clone, Copy)]
+#[derive(Clone, Copy, Debug, PartialEq, Eq, Hash)]
 pub struct Sizes {
     pub models: u32,
     pub workers: u32,

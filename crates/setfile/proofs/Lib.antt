@@ -3,4 +3,5 @@ pub mod Rows
 pub mod Faultless
 pub mod Headers
 pub mod Files
+pub mod Writings
 pub mod Makings

@@ -1,67 +1,36 @@
--- Figures that are read from a file, and figures that are written to one.
-use Rattle.std.proofs.Common.{◌≡◌, ℕ, ◌+◌, ◌-◌, ◌*◌, ◌<◌, ◌≤◌, List, [], ◌∷◌, ◌++◌, length, get_or, take, drop, replicate, None, Ok, Err, Result, sym, refl, ap, ◌∙◌, arith}
-use lib.Seq.{paste}
+-- Figures that are read from a file.
+use Rattle.std.proofs.Common.{◌≡◌, ℕ, ◌+◌, ◌*◌, ◌<◌, List, ◌∷◌, ◌++◌, length, get_or, take, Ok, Err, Result, sym, ap, ◌∙◌, arith}
 use Rattle.std.specs.List.{flat_map}
-use Rattle.std.proofs.lemmas.List.{length-append, take_at}
+use Rattle.std.proofs.lemmas.List.{length-append}
+use Rattle.std.proofs.lemmas.Grind.{common_steps}
 use Rattle.std.proofs.lemmas.List.FromFn.{length-map-range_with_len}
-use Rattle.std.proofs.lemmas.Bool.{eqb-true, le-leb}
 use Rattle.refusal.specs.Refusals.{Answers}
 use Rattle.refusal.specs.declared.Refusal.{Refusal}
 use Rattle.set.specs.Limits.{about_sizes, about_figures}
 use Rattle.set.specs.Models.{slots_of}
-use Rattle.set.specs.declared.figures.Figures.{Figures}
-use Rattle.set.specs.Sets.{models_of, Made, about}
+use Rattle.set.specs.Sets.{models_of, costs_of, periods_of, Made}
 use Rattle.set.specs.declared.sizes.Sizes.{Sizes}
 use Rattle.set.specs.declared.sets.Set.{Set}
-use Rattle.refusal.proofs.Firsts.{passed}
 use Rattle.set.proofs.Faults.{past_sizes}
 use Rattle.setfile.specs.Format.{word_bytes, word_at, words_at, words_of, file_of}
-use Rattle.setfile.specs.Reading.{size_for, about_file, about_writing, Reads}
-use Rattle.setfile.proofs.Bytes.{paste_next, paste_front}
+use Rattle.setfile.specs.Reading.{size_for, about_file, Reads}
 use Rattle.setfile.proofs.Faultless.{first_costs, first_periods, good_sizes}
 use Rattle.setfile.proofs.Headers.{Heads, past_header}
 use Rattle.setfile.proofs.Rows.{Row, row_joined, row_header, row_append, read_row}
 
 first_of : (n : ℕ) (xs slots : List ℕ) → n ≡ length xs → slots ≡ slots_of xs → take n slots ≡ xs
-first_of n xs slots e is = rw (e, is) (take_at xs (replicate (64 - length xs) 0) (length xs) refl)
-
--- figures without a fault have a period for each cost
-pub level_from : (workers group grain : ℕ) (costs periods : List ℕ) → about_figures workers group grain costs periods ≡ None → length costs ≡ length periods
-level_from workers group grain costs periods none = eqb-true (length costs) (length periods) (passed _ _ _ none).0
+first_of n xs slots e is = grind (arith, common_steps)
 
 -- figures make a set
 module _ (workers group grain : ℕ) (costs periods : List ℕ) (level : length costs ≡ length periods) (s : Set) (made : Made workers group grain costs periods s) where
   made_models : first_costs s ++ first_periods s ≡ costs ++ periods
   made_models =
-      let front = first_of (models_of s) costs s.costs made.models made.costs' in
-      let rest = first_of (models_of s) periods s.periods (made.models ∙ level) made.periods' in
+      let front = first_of (models_of s) costs (costs_of s) made.models made.costs' in
+      let rest = first_of (models_of s) periods (periods_of s) (made.models ∙ level) made.periods' in
       cc
 
   made_words : words_of s ≡ length costs ∷ (workers ∷ (group ∷ (grain ∷ (costs ++ periods))))
   made_words = cc made_models
-
-  -- the header, then the costs, then the periods make the file
-  pub writes_file : (d b₁ b₂ b₃ : List ℕ) {place size : ℕ} → b₁ ≡ paste d 0 (flat_map word_bytes (s.sizes.models ∷ (s.sizes.workers ∷ (s.sizes.group_size ∷ (s.sizes.grain ∷ []))))) 16 → b₂ ≡ paste b₁ 16 (flat_map word_bytes costs) (4 * length costs) → b₃ ≡ paste b₂ place (flat_map word_bytes periods) (4 * length periods) → place ≡ 16 + 4 * length costs → size ≡ size_for (length costs) → b₃ ≡ file_of s ++ drop size d
-  writes_file d b₁ b₂ b₃ {place} {size} e₁ e₂ e₃ there is =
-      e₃
-      ∙ ap (λ b. paste b place (flat_map word_bytes periods) (4 * length periods)) two
-      ∙ paste_next d 0 (header ++ costs) periods place (omega arith) (omega arith)
-      ∙ paste_front d (header ++ costs ++ periods)
-      ∙ ap (λ n. flat_map word_bytes (header ++ costs ++ periods) ++ drop n d) all
-      ∙ ap (λ ws. flat_map word_bytes (header ++ ws) ++ drop size d) (sym made_models)
-    where
-      header : List ℕ
-      header = s.sizes.models ∷ (s.sizes.workers ∷ (s.sizes.group_size ∷ (s.sizes.grain ∷ [])))
-
-      two : b₂ ≡ paste d 0 (flat_map word_bytes (header ++ costs)) (4 * length (header ++ costs))
-      two = e₂ ∙ ap (λ b. paste b 16 (flat_map word_bytes costs) (4 * length costs)) e₁ ∙ paste_next d 0 header costs 16 refl (omega arith)
-
-      all : 4 * length (header ++ costs ++ periods) ≡ size
-      all = omega (arith, length-append costs periods)
-
--- figures without a fault fit into room for their file
-pub room_enough : (f : Figures) (room : ℕ) → about f ≡ None → size_for (length f.costs.now) ≤ room → about_writing f room ≡ None
-room_enough f room none enough = rw (none, le-leb (size_for (length f.costs.now)) room enough) refl
 
 -- bytes that begin with sizes and have the length that they ask for
 module _ (bytes : List ℕ) (fits : (i : ℕ) → get_or bytes i 0 < 256) (sizes : Sizes) (heads : Heads bytes sizes) (level : length bytes ≡ size_for sizes.models) where

@@ -1,18 +1,28 @@
 -- Words that stand in a row in some bytes.
-use Rattle.std.proofs.Common.{◌≡◌, ℕ, zero, suc, ◌+◌, ◌-◌, ◌*◌, ◌^◌, ◌<◌, ◌≤◌, List, [], ◌∷◌, ◌++◌, length, get_or, drop, sym, ap, ◌∙◌, ⊎_elim, add_assoc, arith}
+use Rattle.std.proofs.Common.{◌≡◌, ℕ, zero, suc, ◌+◌, ◌-◌, ◌*◌, ◌^◌, ◌<◌, ◌≤◌, List, [], ◌∷◌, ◌++◌, length, get_or, take, drop, sym, ap, ◌∙◌, add_assoc, arith, w32}
+use Rattle.std.specs.Int.{from_le_bytes}
+use Rattle.std.specs.Simd.{first_chunks}
 use Rattle.std.specs.List.{flat_map, AllByRecursion}
-use Rattle.std.proofs.lemmas.Bool.{cases_lt}
-use Rattle.std.proofs.lemmas.List.{length-append, length-drop, get_or-drop, get_or_append_left, get_or-append_right, get_or-append-add, nil_from_length, take-append-drop}
+use Rattle.std.proofs.lemmas.Nat.{from_le_bytes-to_le_bytes_4}
+use Rattle.std.proofs.lemmas.Grind.{common_steps}
+use Rattle.std.proofs.lemmas.List.{length-drop, get_or-drop, get_or-take, length-take-le, take_all, nil_from_length, take-append-drop}
 use Rattle.std.proofs.lemmas.List.FromFn.{get_or-map-range_with_len, length-map-range_with_len, fill_by_all}
 use Rattle.setfile.specs.Format.{word_bytes, word_at, words_at}
-use Rattle.setfile.proofs.Bytes.{word_back, word_spelled}
+use Rattle.setfile.proofs.Bytes.{word_spelled}
 
 -- the words stand in the bytes from this place on
 abbrev pub Row : List ℕ → ℕ → List ℕ → Type 0
 Row bytes at ws = (i : ℕ) → i < length ws → word_at bytes (at + 4 * i) ≡ get_or ws i 0
 
 word_at-drop : (bytes : List ℕ) (n at : ℕ) → word_at (drop n bytes) at ≡ word_at bytes (n + at)
-word_at-drop bytes n at = simp (get_or-drop, add_assoc)
+word_at-drop bytes n at = grind (arith, common_steps)
+
+-- the words of the bytes taken by four
+pub word_at-first_chunks : (bytes : List ℕ) (n i : ℕ) → i < n → from_le_bytes w32 (get_or (first_chunks 4 n bytes) i []) ≡ word_at bytes (4 * i)
+word_at-first_chunks bytes zero i h = absurd (omega arith)
+word_at-first_chunks bytes (suc n) zero h = grind (arith, common_steps)
+word_at-first_chunks bytes (suc n) (suc i) h =
+    let t = word_at-first_chunks (drop 4 bytes) n i (omega arith) in grind (arith, word_at-drop)
 
 module _ (bytes : List ℕ) (at : ℕ) where
   pub row_cons : (w : ℕ) (ws : List ℕ) → word_at bytes at ≡ w → Row bytes (at + 4) ws → Row bytes at (w ∷ ws)
@@ -22,32 +32,30 @@ module _ (bytes : List ℕ) (at : ℕ) where
       ap (word_at bytes) next ∙ rest i (omega arith)
 
   pub row_append : (xs ys : List ℕ) (n : ℕ) → length xs ≡ n → Row bytes at xs → Row bytes (at + 4 * n) ys → Row bytes at (xs ++ ys)
-  row_append xs ys n e front rest i h =
-      ⊎_elim
-      (λ (lt : i < length xs). front i lt ∙ sym (get_or_append_left xs ys 0 i lt))
-      (λ (le : length xs ≤ i).
-      let there : at + 4 * i ≡ at + 4 * n + 4 * (i - n) = omega arith in
-      ap (word_at bytes) there
-      ∙ rest (i - n) (omega (arith, length-append xs ys))
-      ∙ sym (get_or-append_right xs ys n i 0 e (omega arith)))
-      (cases_lt i (length xs))
+  row_append xs ys n e front rest i h = grind (arith, common_steps, front i, rest (i - n))
 
   pub row_front : (xs ys : List ℕ) → Row bytes at (xs ++ ys) → Row bytes at xs
-  row_front xs ys row i h = row i (omega (arith, length-append xs ys)) ∙ get_or_append_left xs ys 0 i h
+  row_front xs ys row i h = grind (arith, common_steps, row i)
 
   pub row_rest : (xs ys : List ℕ) (n : ℕ) → length xs ≡ n → Row bytes at (xs ++ ys) → Row bytes (at + 4 * n) ys
-  row_rest xs ys n e row i h =
-      let there : at + 4 * n + 4 * i ≡ at + 4 * (length xs + i) = omega arith in
-      ap (word_at bytes) there ∙ row (length xs + i) (omega (arith, length-append xs ys)) ∙ get_or-append-add xs ys i 0
+  row_rest xs ys n e row i h = grind (arith, common_steps, row (n + i))
 
   -- what is read in a row stands there, and nothing else does
   pub read_row : (n : ℕ) → Row bytes at (words_at bytes at n)
-  read_row n i h =
-      sym (get_or-map-range_with_len (λ k. word_at bytes (at + 4 * k)) 0 n i i 0 (omega (arith, length-map-range_with_len (λ k. word_at bytes (at + 4 * k)) 0 n)) (omega arith))
+  read_row n i h = grind (arith, get_or-map-range_with_len, length-map-range_with_len)
 
   pub row_read : (ws : List ℕ) (n : ℕ) → length ws ≡ n → Row bytes at ws → words_at bytes at n ≡ ws
   row_read ws n level row =
       sym (fill_by_all (λ i. word_at bytes (at + 4 * i)) ws n 0 level (λ i h. sym (row i (omega arith))))
+
+-- the first n of the words that are read from this place on are those that stand there
+pub words_read : (bytes : List ℕ) (at n most : ℕ) (ws : List ℕ) → let rest = take (length bytes - at) (drop at bytes) in ((i : ℕ) → i < most → 4 * i + 4 ≤ length rest → get_or ws i 0 ≡ word_at rest (4 * i)) → n ≤ most → n ≤ length ws → at + 4 * n ≤ length bytes → take n ws ≡ words_at bytes at n
+words_read bytes at n most ws each fewer few within =
+    fill_by_all (λ i. word_at bytes (at + 4 * i)) (take n ws) n 0 (length-take-le n ws few)
+    (λ i h. get_or-take n ws i 0 h ∙ each i (omega arith) (omega (arith, ap length rest, length-drop at bytes)) ∙ ap (λ bs. word_at bs (4 * i)) rest ∙ word_at-drop bytes at (4 * i))
+  where
+    rest : take (length bytes - at) (drop at bytes) ≡ drop at bytes
+    rest = take_all (length bytes - at) (drop at bytes) (grind (arith, common_steps))
 
 pub row_header : (bytes : List ℕ) (a b c d : ℕ) (ws : List ℕ) → word_at bytes 0 ≡ a → word_at bytes 4 ≡ b → word_at bytes 8 ≡ c → word_at bytes 12 ≡ d → Row bytes 16 ws → Row bytes 0 (a ∷ (b ∷ (c ∷ (d ∷ ws))))
 row_header bytes a b c d ws ea eb ec ed rest =
@@ -62,7 +70,7 @@ row_drop bytes n at ws row i h =
 pub joined_row : (ws : List ℕ) → AllByRecursion (λ w. w < 2 ^ 32) ws → Row (flat_map word_bytes ws) 0 ws
 joined_row [] fits = λ i h. absurd (omega arith)
 joined_row (w ∷ ws) fits =
-    row_cons (flat_map word_bytes (w ∷ ws)) 0 w ws (word_back w fits.0)
+    row_cons (flat_map word_bytes (w ∷ ws)) 0 w ws (from_le_bytes-to_le_bytes_4 w fits.0)
     (row_drop (flat_map word_bytes (w ∷ ws)) 4 0 ws (joined_row ws fits.1))
 
 -- bytes that fit are just the words that stand in them
@@ -70,7 +78,7 @@ pub row_joined : (bytes ws : List ℕ) → ((i : ℕ) → get_or bytes i 0 < 256
 row_joined bytes [] fits level row = nil_from_length bytes level
 row_joined bytes (w ∷ ws) fits level row =
     sym (take-append-drop 4 bytes)
-    ∙ ap (λ xs. xs ++ drop 4 bytes) (sym (word_spelled bytes 0 (omega arith) (fits 0) (fits 1) (fits 2) (fits 3)) ∙ ap word_bytes (row 0 (omega arith)))
+    ∙ ap (λ xs. xs ++ drop 4 bytes) (sym (word_spelled bytes 0 (omega arith) fits) ∙ ap word_bytes (row 0 (omega arith)))
     ∙ ap (λ xs. word_bytes w ++ xs) (row_joined (drop 4 bytes) ws fits' (omega (arith, length-drop 4 bytes)) row')
   where
     fits' : (i : ℕ) → get_or (drop 4 bytes) i 0 < 256

@@ -2,7 +2,7 @@
 use Rattle.std.specs.Prelude.{ℕ, ◌+◌, ◌*◌, ◌/◌, ◌%◌, List, [], ◌∷◌, ◌++◌, map, take, slice_index}
 use Rattle.std.specs.List.{range_with_len, flat_map}
 use Rattle.set.specs.declared.sets.Set.{Set}
-use Rattle.set.specs.Sets.{models_of, worker_count_of, group_size_of, grain_of}
+use Rattle.set.specs.Sets.{models_of, worker_count_of, group_size_of, grain_of, costs_of, periods_of}
 
 -- the four bytes of a word, the lowest first
 abbrev pub word_bytes : ℕ → List ℕ
@@ -12,7 +12,7 @@ word_bytes word = word % 256 ∷ (word / 256 % 256 ∷ (word / 65536 % 256 ∷ (
 abbrev pub words_of : Set → List ℕ
 words_of set =
     models_of set ∷ (worker_count_of set ∷ (group_size_of set ∷ (grain_of set ∷
-    (take (models_of set) set.costs ++ take (models_of set) set.periods))))
+    (take (models_of set) (costs_of set) ++ take (models_of set) (periods_of set)))))
 
 abbrev pub file_of : Set → List ℕ
 file_of set = flat_map word_bytes (words_of set)

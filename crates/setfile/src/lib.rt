@@ -1,19 +1,18 @@
 // Set files: a set as 32-bit little-endian words, read and written.
 #![tactic(auto)]
 
-ghost use Rattle.std.specs.Prelude.{◌≡◌, ℕ, ◌+◌, ◌*◌, ◌≤◌, List, length, take, Ok, MatchResult};
-ghost use Rattle.std.proofs.Math.Seq.{paste};
-ghost use Rattle.std.specs.List.{flat_map};
-ghost use Rattle.refusal.specs.Refusals.{Answers, number_of, told};
-ghost use Rattle.refusal.specs.declared.Layer.TheVariants.{File};
+ghost use Rattle.std.specs.Prelude.{◌≡◌, ℕ, ◌+◌, ◌*◌, ◌<◌, ◌≤◌, List, length, Ok, MatchResult, slice_index};
+ghost use Rattle.refusal.specs.Refusals.{Answers};
 ghost use Rattle.set.specs.declared.sets.Set.{Set};
-ghost use Rattle.setfile.specs.Format.{file_of, word_bytes, word_at, words_at};
+ghost use Rattle.set.specs.Sets.{models_of};
+ghost use Rattle.setfile.specs.Format.{file_of, word_at};
 ghost use Rattle.setfile.specs.Reading.{Reads, Wrote, about_writing, size_for};
 
 use refusal::{Fault, Layer, Refusal};
 use set::figures::Figures;
 use set::sets::Set;
 use set::sizes::{MODELS, Sizes};
+use std::array;
 
 // The set of a file. The file of a set reads as that set, and no other file does.
 pub fn read(bytes: &[u8]) -> Result<Set, Refusal>
@@ -22,30 +21,27 @@ pub fn read(bytes: &[u8]) -> Result<Set, Refusal>
     ensures one { (s : Set) (other : List ℕ) → result ≡ Ok s → Reads other (Ok s) → other ≡ bytes.now }
 {
     if bytes.len() < 16 {
-        return Err(refuse(Fault::Short, bytes.len()));
+        return Err(Fault::Short.at(Layer::File, bytes.len() as u64));
     }
-    let sizes = Sizes::new(
-        word(bytes, 0) as u64,
-        word(bytes, 4),
-        word(bytes, 8),
-        word(bytes, 12),
-    )?;
+    let [models, workers, group_size, grain] = words::<4>(bytes);
+    let sizes = Sizes::new(models as u64, workers, group_size, grain)?;
     let count = sizes.models as usize;
     let size = file_size(count);
     if bytes.len() < size {
-        return Err(refuse(Fault::Short, bytes.len()));
+        return Err(Fault::Short.at(Layer::File, bytes.len() as u64));
     }
     if bytes.len() > size {
-        return Err(refuse(Fault::Long, size));
+        return Err(Fault::Long.at(Layer::File, size as u64));
     }
-    let costs = words(bytes, 16, count);
-    let periods = words(bytes, 16 + 4 * count, count);
+    // the tables have room for the most models, since nothing allocates
+    let costs = words::<MODELS>(&bytes[16..]);
+    let periods = words::<MODELS>(&bytes[16 + 4 * count..]);
     let figures = Figures {
         workers: sizes.workers,
         group_size: sizes.group_size,
         grain: sizes.grain,
-        costs: &costs[0..count],
-        periods: &periods[0..count],
+        costs: &costs[..count],
+        periods: &periods[..count],
     };
     figures.check()
 }
@@ -59,29 +55,32 @@ pub fn write(figures: &Figures, buffer: &mut [u8]) -> Result<usize, Refusal>
     let count = figures.costs.len();
     let size = file_size(count);
     if buffer.len() < size {
-        return Err(refuse(Fault::Short, buffer.len()));
+        return Err(Fault::Short.at(Layer::File, buffer.len() as u64));
     }
-    let header = [
-        set.sizes.models,
-        set.sizes.workers,
-        set.sizes.group_size,
-        set.sizes.grain,
-    ];
-    put_words(buffer, 0, &header);
-    put_words(buffer, 16, figures.costs);
-    put_words(buffer, 16 + 4 * count, figures.periods);
+    put_file(&set, &mut buffer[..size]);
     Ok(size)
 }
 
-// A file or a buffer has the wrong length.
-fn refuse(fault: Fault, place: usize) -> Refusal
-    ensures { told result ≡ record { number = number_of fault; layer = File; place = place } }
+// Fills the place with the file of the set.
+fn put_file(set: &Set, place: &mut [u8])
+    requires { length place.old ≡ size_for (models_of set.now) }
+    ensures { place.new ≡ file_of set.now }
 {
-    Refusal {
-        fault,
-        layer: Layer::File,
-        place: place as u64,
-    }
+    let Sizes {
+        models,
+        workers,
+        group_size,
+        grain,
+    } = set.sizes;
+    let count = models as usize;
+    let sizes = [models, workers, group_size, grain].map(u32::to_le_bytes);
+    let costs = set.models.map(|model| model.cost).map(u32::to_le_bytes);
+    let periods = set.models.map(|model| model.period).map(u32::to_le_bytes);
+    let (header, rows) = place.split_at_mut(16);
+    let (cost_row, period_row) = rows.split_at_mut(4 * count);
+    header.copy_from_slice(sizes.as_flattened());
+    cost_row.copy_from_slice(costs[..count].as_flattened());
+    period_row.copy_from_slice(periods[..count].as_flattened());
 }
 
 // The bytes of a file with this many models.
@@ -92,34 +91,10 @@ fn file_size(models: usize) -> usize
     16 + 8 * models
 }
 
-// The word whose lowest byte is at this place.
-fn word(bytes: &[u8], at: usize) -> u32
-    requires { at + 4 ≤ length bytes.now }
-    ensures { result ≡ word_at bytes.now at }
+// The first N words of the bytes, and 0 for those behind the last whole one.
+fn words<const N: usize>(bytes: &[u8]) -> [u32; N]
+    ensures { (i : ℕ) → i < N → 4 * i + 4 ≤ length bytes.now → slice_index result i ≡ word_at bytes.now (4 * i) }
 {
-    u32::from_le_bytes([bytes[at], bytes[at + 1], bytes[at + 2], bytes[at + 3]])
-}
-
-// So many words from this place on, in the first slots.
-fn words(bytes: &[u8], at: usize, count: usize) -> [u32; MODELS]
-    requires few { count ≤ 64 }
-    requires within { at + 4 * count ≤ length bytes.now }
-    ensures { take count result ≡ words_at bytes.now at count }
-{
-    let mut words = [0; MODELS];
-    for i in 0..count {
-        words[i] = word(bytes, at + 4 * i);
-    }
-    words
-}
-
-// Writes the words from this place on.
-fn put_words(buffer: &mut [u8], at: usize, words: &[u32])
-    requires { at + 4 * length words.now ≤ length buffer.old }
-    ensures { buffer.new ≡ paste buffer.old at (flat_map word_bytes words.now) (4 * length words.now) }
-{
-    for (i, word) in words.iter().enumerate() {
-        let place = at + 4 * i;
-        buffer[place..place + 4].copy_from_slice(&word.to_le_bytes());
-    }
+    let (words, _) = bytes.as_chunks::<4>();
+    array::from_fn(|i| words.get(i).map_or(0, |word| u32::from_le_bytes(*word)))
 }

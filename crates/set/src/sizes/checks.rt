@@ -2,7 +2,7 @@ ghost use Rattle.std.specs.Prelude.{◌≡◌};
 ghost use Rattle.refusal.specs.Refusals.{Answers, told};
 ghost use Rattle.set.specs.Limits.{about_sizes, bad_size};
 
-use super::{GRAIN, MODELS, Sizes, WORKERS};
+use super::{GRAIN, MODELS, SizeKind, Sizes, WORKERS};
 use refusal::{Fault, Layer, Refusal};
 
 impl Sizes {
@@ -11,16 +11,16 @@ impl Sizes {
         ensures { Answers (about_sizes models workers group_size grain) result (λ s. (s.models ≡ models) × (s.workers ≡ workers) × (s.group_size ≡ group_size) × (s.grain ≡ grain)) }
     {
         if models < 1 || models > MODELS as u64 {
-            return Err(outside(1));
+            return Err(outside(SizeKind::Models));
         }
         if workers < 1 || workers > WORKERS as u32 {
-            return Err(outside(2));
+            return Err(outside(SizeKind::Workers));
         }
         if group_size < 1 || group_size > workers {
-            return Err(outside(3));
+            return Err(outside(SizeKind::GroupSize));
         }
         if grain < 1 || grain > GRAIN {
-            return Err(outside(4));
+            return Err(outside(SizeKind::Grain));
         }
         Ok(Sizes {
             models: models as u32,
@@ -31,13 +31,9 @@ impl Sizes {
     }
 }
 
-// The size at this place is outside its range.
-pub(crate) fn outside(place: u64) -> Refusal
-    ensures { told result ≡ bad_size place }
+// This size is outside its range.
+pub(crate) fn outside(kind: SizeKind) -> Refusal
+    ensures { told result ≡ bad_size kind }
 {
-    Refusal {
-        fault: Fault::Size,
-        layer: Layer::Set,
-        place,
-    }
+    Fault::Size.at(Layer::Set, kind as u64)
 }

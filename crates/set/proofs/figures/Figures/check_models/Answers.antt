@@ -1,14 +1,43 @@
-use Rattle.std.proofs.Common.{◌+◌, get_or}
+use Rattle.std.proofs.Common.{◌≡◌, ℕ, ◌<◌, List, length, get_or, arith}
+use Rattle.std.specs.List.{enumerate_from, zip}
+use Rattle.std.proofs.lemmas.Iterator.{YieldsList-from_slice, YieldsList-from_zip}
+use Rattle.std.proofs.lemmas.Iterator.Consumers.{YieldsList-from_enumerate, YieldsList-turn, YieldsList-end}
+use Rattle.std.proofs.lemmas.Slice.Zip.{length-zip, get_or-zip}
+use Rattle.std.proofs.lemmas.List.FromFn.{length-enumerate_from, get_or-enumerate_from}
+use Rattle.std.proofs.lemmas.List.{length_push}
+use Rattle.std.proofs.lemmas.Grind.{common_steps, get_or_default_zero}
 use Rattle.std.proofs.lemmas.Result.{err_from_is_err_and}
 use Rattle.refusal.proofs.Firsts.{first_more, first_stays}
-use Rattle.set.specs.Limits.{about_model}
 use Rattle.set.proofs.figures.Figures.check_models.Goals as goal
+
+-- the n-th item of the loop is the n-th model
+item : (costs periods : List ℕ) (n i cost period : ℕ) → length costs ≡ length periods → (n < length (enumerate_from 0 (zip costs periods))) × ((i, (cost, period)) ≡ get_or (enumerate_from 0 (zip costs periods)) n (i, (cost, period))) → (n < length costs) × (i ≡ n) × (cost ≡ get_or costs n 0) × (period ≡ get_or periods n 0)
+item costs periods n i cost period level h =
+    grind (arith, common_steps, length-enumerate_from, get_or-enumerate_from, length-zip, get_or-zip, get_or_default_zero)
 
 pub returns-in_err-check_model : goal.returns-in_err-check_model
 returns-in_err-check_model c =
+    let costs = c.args.self.now.costs.now in
+    let periods = c.args.self.now.periods.now in
+    let t = YieldsList-turn (YieldsList-from_enumerate (YieldsList-from_zip (YieldsList-from_slice costs cc) (YieldsList-from_slice periods cc)) cc) c.loop-i.yielded _ c.loop-i.yielded_by _ c.next.new.self _ c.in-Some.is c.next.ensures.steps in
+    let at = item costs periods (length c.loop-i.yielded) c.in-Some.i _ _ c.requires t in
     let p = err_from_is_err_and c.from_residual.result c.from_residual.ensures.1 in
     rw (p.1, p.2)
-    (first_stays (λ i. about_model c.args.self.now.grain (i + 1) (get_or c.args.self.now.costs.now i 0) (get_or c.args.self.now.periods.now i 0)) _ c.loop-i.i _ c.loop-i-test.true c.loop-i.invariant c.in_err-check_model.ensures)
+    (first_stays _ _ (length c.loop-i.yielded) _ at.0 c.loop-i.invariant (rw (at.1, at.2, at.3) at c.in_err-check_model.ensures))
 
 pub loop-i-preserved : goal.loop-i-preserved
-loop-i-preserved c = first_more (λ i. about_model c.args.self.now.grain (i + 1) (get_or c.args.self.now.costs.now i 0) (get_or c.args.self.now.periods.now i 0)) c.loop-i.i c.loop-i.invariant c.in_ok-check_model.ensures.0
+loop-i-preserved c =
+    let costs = c.args.self.now.costs.now in
+    let periods = c.args.self.now.periods.now in
+    let t = YieldsList-turn (YieldsList-from_enumerate (YieldsList-from_zip (YieldsList-from_slice costs cc) (YieldsList-from_slice periods cc)) cc) c.loop-i.yielded _ c.loop-i.yielded_by _ c.next.new.self _ c.in-Some.is c.next.ensures.steps in
+    let at = item costs periods (length c.loop-i.yielded) c.in-Some.i _ _ c.requires t in
+    rw (length_push c.loop-i.yielded _)
+    (first_more _ (length c.loop-i.yielded) c.loop-i.invariant (rw (at.1, at.2, at.3) at c.in_ok-check_model.ensures.0))
+
+pub returns : goal.returns
+returns c =
+    let costs = c.args.self.now.costs.now in
+    let periods = c.args.self.now.periods.now in
+    let t = YieldsList-end (YieldsList-from_enumerate (YieldsList-from_zip (YieldsList-from_slice costs cc) (YieldsList-from_slice periods cc)) cc) c.loop-i.yielded _ c.loop-i.yielded_by _ c.next.new.self c.in-None.is c.next.ensures.steps in
+    let all : length costs ≡ length c.loop-i.yielded = omega (arith, t.1, length-enumerate_from 0 (zip costs periods), length-zip costs periods) in
+    (rw all c.loop-i.invariant, tt)
