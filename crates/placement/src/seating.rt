@@ -4,7 +4,7 @@ ghost use Rattle.set.specs.Sets.{models_of};
 ghost use Rattle.placement.specs.Rules.{heavies, cursor, placed, room_for_light, about_light};
 
 use crate::cursors::Cursor;
-use crate::weighed::{Weighed, is_heavy, weight_at};
+use crate::weighed::{Weighed, is_heavy, known_weight};
 use plan::pieces::Pieces;
 use refusal::Refusal;
 
@@ -41,7 +41,7 @@ impl Walk {
         ensures heavies { OnOk result (self.new.heavies ≡ heavies weighed.now.set.now (i + 1)) }
         ensures cursor { OnOk result (self.new.cursor ≡ cursor weighed.now.set.now (i + 1)) }
     {
-        let weight = weight_at(weighed.set, i);
+        let weight = known_weight(weighed.set, i as u32 + 1);
         if is_heavy(weighed.set, weight) {
             self.heavies += 1;
             return Ok(Pieces::Whole {

@@ -1,6 +1,6 @@
-ghost use Rattle.std.specs.Prelude.{◌≡◌, ◌<◌, ◌≤◌, None};
+ghost use Rattle.std.specs.Prelude.{◌≡◌, ◌-◌, ◌≤◌, None};
 ghost use Rattle.refusal.specs.Refusals.{Answers, check};
-ghost use Rattle.set.specs.Sets.{models_of, grain_of, weight_of};
+ghost use Rattle.set.specs.Sets.{grain_of, HasModel, Weighs};
 ghost use Rattle.placement.specs.Rules.{is_heavy_weight, alone_of, room_for_light, too_heavy};
 
 use refusal::{Fault, Layer, Refusal};
@@ -42,23 +42,19 @@ fn count_heavy(set: &Set) -> u32
     ensures { result ≡ alone_of set.now }
 {
     let mut count = 0;
-    for i in 0..set.sizes.models as usize {
-        let weight = weight_at(set, i);
-        if is_heavy(set, weight) {
-            count += 1;
-        }
+    for model in 1..=set.sizes.models {
+        let weight = known_weight(set, model);
+        count += u32::from(is_heavy(set, weight));
     }
     count
 }
 
-// The weight of the model in slot i.
-pub(crate) fn weight_at(set: &Set, i: usize) -> u32
-    requires { i < models_of set.now }
-    ensures is { result ≡ weight_of set.now i }
-    ensures some { 1 ≤ result }
-    ensures fits { result ≤ grain_of set.now }
+// The weight of a model of the set.
+pub(crate) fn known_weight(set: &Set, model: u32) -> u32
+    requires { HasModel set.now model }
+    ensures { Weighs set.now (model - 1) result }
 {
-    set.weight(i as u32 + 1).unwrap()
+    set.weight(model).unwrap()
 }
 
 // Whether a model of this weight is heavy.

@@ -1,5 +1,5 @@
 ghost use Rattle.std.specs.Prelude.{◌≡◌, ◌-◌, ◌<◌, MatchOption, slice_index};
-ghost use Rattle.set.specs.Sets.{Model, worker_count_of};
+ghost use Rattle.set.specs.Sets.{OfModel, worker_count_of};
 ghost use Rattle.plan.specs.Shares.{pieces_at, worker_of};
 ghost use Rattle.plan.specs.Groups.{Group, NoGroup, Counts};
 ghost use Rattle.plan.specs.Answers.{Worker, group_in};
@@ -19,7 +19,7 @@ impl Plan {
 
     // Where a model runs.
     pub fn pieces_of(&self, model: u32) -> Option<Pieces>
-        ensures { MatchOption result (Model self.now.set model → ⊥) (λ x. Model self.now.set model × (x ≡ pieces_at self.now.pieces (model - 1))) }
+        ensures { OfModel self.now.set model result (λ x. x ≡ pieces_at self.now.pieces (model - 1)) }
     {
         let i = self.set.slot(model)?;
         Some(self.pieces[i])
@@ -59,7 +59,7 @@ impl Plan {
 
     // The group that a model runs in.
     pub fn group_of(&self, model: u32) -> Option<u32>
-        ensures { MatchOption result (Model self.now.set model → ⊥) (λ g. Model self.now.set model × (g ≡ group_in self.now (worker_of (pieces_at self.now.pieces (model - 1))))) }
+        ensures { OfModel self.now.set model result (λ g. g ≡ group_in self.now (worker_of (pieces_at self.now.pieces (model - 1)))) }
     {
         let worker = self.pieces_of(model)?.worker();
         Some(self.grouping().group_of(worker))

@@ -1,6 +1,6 @@
 use Rattle.std.proofs.Common.{sym, ◌∙◌, arith}
 use Rattle.placement.proofs.Keeps.{heavies_le}
-use Rattle.placement.proofs.Steps.{heavies_same, light_told, cursor_moves, cursor_ready, moved_ready}
+use Rattle.placement.proofs.Steps.{slot_weight, heavies_same, light_told, cursor_moves, cursor_ready, moved_ready}
 use Rattle.placement.proofs.seating.Walk.seat.Goals as goal
 
 pub overflow_add-self : goal.overflow_add-self
@@ -11,27 +11,34 @@ overflow_add-self c =
 pub seat-requires : goal.seat-requires
 seat-requires c =
     let weighed = c.args.weighed.now in
-    let ready = cursor_ready weighed.set.now c.args.i _ _ c.weight_at-weight.ensures.is c.is_heavy.ensures c.if-is_heavy.false c.args.self.now.cursor c.requires.cursor weighed.alone weighed.counted c.requires.model c.requires.room c.requires.before in
+    let set = weighed.set.now in
+    let weighs = slot_weight set c.args.i _ c.known_weight-weight.ensures.is in
+    let ready = cursor_ready set c.args.i _ _ weighs c.is_heavy.ensures c.if-is_heavy.false c.args.self.now.cursor c.requires.cursor weighed.alone weighed.counted c.requires.model c.requires.room c.requires.before in
     record {
       floor = ready.0;
       last = ready.1;
       room = ready.2;
-      light = c.weight_at-weight.ensures.fits;
+      light = c.known_weight-weight.ensures.fits;
     }
 
 pub moved-self-requires : goal.moved-self-requires
 moved-self-requires c =
     let weighed = c.args.weighed.now in
     let set = weighed.set.now in
-    let same = light_told set c.args.i _ _ c.weight_at-weight.ensures.is c.is_heavy.ensures c.if-is_heavy.false c.args.self.now.cursor c.requires.cursor weighed.alone weighed.counted in
-    let ready = moved_ready set c.args.i _ _ c.weight_at-weight.ensures.is c.is_heavy.ensures c.if-is_heavy.false c.args.self.now.cursor c.requires.cursor weighed.alone weighed.counted c.requires.model c.requires.room c.requires.before c.in_ok-seated.seated c.in_ok-seated.ensures.1 (sym same ∙ c.in_ok-seated.ensures.0) in
+    let weighs = slot_weight set c.args.i _ c.known_weight-weight.ensures.is in
+    let same = light_told set c.args.i _ _ weighs c.is_heavy.ensures c.if-is_heavy.false c.args.self.now.cursor c.requires.cursor weighed.alone weighed.counted in
+    let ready = moved_ready set c.args.i _ _ weighs c.is_heavy.ensures c.if-is_heavy.false c.args.self.now.cursor c.requires.cursor weighed.alone weighed.counted c.requires.model c.requires.room c.requires.before c.in_ok-seated.seated c.in_ok-seated.ensures.1 (sym same ∙ c.in_ok-seated.ensures.0) in
     record { worker = omega (arith, ready.0, set.sizes.few_workers); load = omega (arith, ready.1, set.sizes.small_grain) }
 
 pub returns-clause-heavies : goal.returns-clause-heavies
 returns-clause-heavies c =
-    c.requires.heavies ∙ sym (heavies_same c.args.weighed.now.set.now c.args.i _ _ c.weight_at-weight.ensures.is c.is_heavy.ensures c.if-is_heavy.false)
+    let set = c.args.weighed.now.set.now in
+    let weighs = slot_weight set c.args.i _ c.known_weight-weight.ensures.is in
+    c.requires.heavies ∙ sym (heavies_same set c.args.i _ _ weighs c.is_heavy.ensures c.if-is_heavy.false)
 
 pub returns-clause-cursor : goal.returns-clause-cursor
 returns-clause-cursor c =
     let weighed = c.args.weighed.now in
-    c.moved-self.ensures ∙ cursor_moves weighed.set.now c.args.i _ _ c.weight_at-weight.ensures.is c.is_heavy.ensures c.if-is_heavy.false c.args.self.now.cursor c.requires.cursor weighed.alone weighed.counted c.in_ok-seated.seated c.in_ok-seated.ensures.1
+    let set = weighed.set.now in
+    let weighs = slot_weight set c.args.i _ c.known_weight-weight.ensures.is in
+    c.moved-self.ensures ∙ cursor_moves set c.args.i _ _ weighs c.is_heavy.ensures c.if-is_heavy.false c.args.self.now.cursor c.requires.cursor weighed.alone weighed.counted c.in_ok-seated.seated c.in_ok-seated.ensures.1
