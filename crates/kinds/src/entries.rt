@@ -6,14 +6,14 @@ ghost use Rattle.kinds.specs.Keys.{by_tick};
 use order::Order;
 
 // A date of a model.
-#[derive(Clone, Copy, PartialEq, Eq, Debug)]
+#[derive(Clone, Copy, Debug, PartialEq, Eq, Hash)]
 pub struct Entry {
     pub tick: u32,
     pub model: u32,
 }
 
 // The earlier tick first; ties by model number.
-#[derive(Clone, Copy)]
+#[derive(Clone, Copy, Debug, Default, PartialEq, Eq, Hash)]
 pub struct ByTick;
 
 impl Order for ByTick {

@@ -6,7 +6,7 @@ ghost use Rattle.kinds.specs.Keys.{by_model, by_remaining};
 use order::Order;
 
 // A run of a model: the tick that is its deadline, and the parts that it still needs.
-#[derive(Clone, Copy, PartialEq, Eq, Debug)]
+#[derive(Clone, Copy, Debug, PartialEq, Eq, Hash)]
 pub struct Run {
     pub model: u32,
     pub deadline: u32,
@@ -14,7 +14,7 @@ pub struct Run {
 }
 
 // The earlier deadline first; ties by model number.
-#[derive(Clone, Copy)]
+#[derive(Clone, Copy, Debug, Default, PartialEq, Eq, Hash)]
 pub struct ByModel;
 
 impl Order for ByModel {
@@ -34,7 +34,7 @@ impl Order for ByModel {
 }
 
 // The earlier deadline first; ties by fewer parts remaining, then by model number.
-#[derive(Clone, Copy)]
+#[derive(Clone, Copy, Debug, Default, PartialEq, Eq, Hash)]
 pub struct ByRemaining;
 
 impl Order for ByRemaining {

@@ -33,7 +33,7 @@ impl<T> Queue<'_, T> {
 }
 
 // Why a thing was not put: every slot is in use.
-#[derive(Clone, Copy, PartialEq, Eq, Debug)]
+#[derive(Clone, Copy, Debug, PartialEq, Eq, Hash)]
 pub struct Full;
 
 impl fmt::Display for Full {
