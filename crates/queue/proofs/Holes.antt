@@ -1,9 +1,9 @@
 -- A hole moves through a list. `set s j x` is the list as it would be, were the travelling thing x written into the hole at j now.
-use Rattle.std.proofs.Common.{◌≡◌, ℕ, zero, suc, ◌+◌, ◌<◌, ◌≤◌, List, [], ◌∷◌, length, get_or, take, drop, set, sym, ap, ◌∙◌, add-one, arith, take-suc}
+use Rattle.std.proofs.Common.{◌≡◌, ℕ, zero, suc, ◌+◌, ◌<◌, ◌≤◌, List, [], ◌∷◌, length, get_or, take, set, sym, ap, ◌∙◌, add-one, arith, take-suc}
 use Rattle.std.proofs.Math.Seq.{take-set-lt}
 use Rattle.std.specs.List.{swap}
 use Rattle.std.specs.List.Sorted.{IsPermutation}
-use Rattle.std.proofs.lemmas.List.{length-set, length-take-le, get_or-take, get_or-set_same, get_or-set_other, get_or_default, set-set, set_comm, set-get_or, take_more_set, drop-set-lt}
+use Rattle.std.proofs.lemmas.List.{length-set, length-take-le, get_or-take, get_or-set_same, get_or-set_other, get_or_default, set-set, set_comm, take_more_set, drop-set-lt}
 use Rattle.std.proofs.lemmas.List.Edits.{swap_is}
 use Rattle.std.proofs.lemmas.List.Sorted.{IsPermutation-refl, IsPermutation-trans, IsPermutation-swap, IsPermutation-cons, IsPermutation-to_front, IsPermutation-sym}
 use Rattle.queue.specs.Queues.{Rearranged}
@@ -56,8 +56,3 @@ module _ {X : Type 0} where
   -- a take ends
   pub took : (s t : List X) (m n : ℕ) (d e : X) → m ≡ n + 1 → n < length s → IsPermutation (take n (set s 0 (get_or s n e))) (take n t) → IsPermutation (get_or s 0 d ∷ take n t) (take m s)
   took s t m n d e is h moved = rw is (IsPermutation-sym _ _ (IsPermutation-trans _ _ _ (take_begins s n d e h) (IsPermutation-cons (get_or s 0 d) _ _ moved)))
-
-  -- what stands behind, as a take begins
-  pub behind_begins : (s : List X) (n : ℕ) (d : X) → drop n (set s 0 (get_or s n d)) ≡ drop n s
-  behind_begins s zero d = set-get_or s 0 d
-  behind_begins s (suc n) d = drop-set-lt (suc n) s 0 (get_or s (suc n) d) (omega arith)

@@ -7,7 +7,7 @@ ghost use Rattle.queue.specs.Queues.{count_of, held, Ordered, Drained};
 use super::Queue;
 use order::Order;
 
-impl<T: Copy> Queue<'_, T> {
+impl<'a, T: Copy> Queue<'a, T> {
     // Moves things to `out` in order, until none is held or `out` is full; answers how many.
     pub fn drain<O: Order<Item = T>>(&mut self, order: &O, out: &mut [T]) -> usize
         ensures drains { Drained (O.precedes order.now) result self.old self.new out.old out.new }

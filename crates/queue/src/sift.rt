@@ -6,7 +6,7 @@ ghost use Rattle.queue.specs.Queues.{slots_of, count_of, Sifted};
 use super::Queue;
 use order::Order;
 
-impl<T: Copy> Queue<'_, T> {
+impl<'a, T: Copy> Queue<'a, T> {
     // Makes room for a thing on the way up from the first free slot.
     pub(crate) fn rise<O: Order<Item = T>>(&mut self, order: &O, thing: T)
         requires { count_of self.old < length (slots_of self.old) }

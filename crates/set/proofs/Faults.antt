@@ -18,10 +18,14 @@ past_sizes workers group grain costs periods level sizes = grind (arith, nat_tes
 model_sound : (grain model cost period : ℕ) → about_model grain model cost period ≡ None → ((1 ≤ period) × (grain % period ≡ 0)) × ((1 ≤ cost) × (cost ≤ period))
 model_sound grain model cost period h = grind (arith, nat_tests)
 
+-- what stands in a slot, behind the last number too
+pub slot_is : (xs : List ℕ) (slots i : ℕ) → get_or (xs ++ replicate (slots - length xs) 0) i 0 ≡ get_or xs i 0
+slot_is xs slots i = grind (arith, common_steps, get_or_past)
+
 -- numbers with a tail of 0, by what stands in each slot
 pub filled : (xs : List ℕ) {slots : ℕ} → length xs ≤ slots → xs ++ replicate (slots - length xs) 0 ≡ map (λ i. get_or xs i 0) (range_with_len 0 slots)
 filled xs {slots} few =
-    fill_by_all (λ i. get_or xs i 0) (xs ++ replicate (slots - length xs) 0) slots 0 (grind (arith, common_steps)) (λ i h. grind (arith, common_steps))
+    fill_by_all (λ i. get_or xs i 0) (xs ++ replicate (slots - length xs) 0) slots 0 (grind (arith, common_steps)) (λ i h. slot_is xs slots i)
 
 -- what the slots of a set keep to
 pub record Lawful (n grain : ℕ) (models : List Model) (slots : ℕ) : Type 0 where
@@ -57,8 +61,8 @@ module _ (costs periods : List ℕ) (models : List Model) (slots : ℕ) (made : 
       ∙ sym (filled periods (omega arith))
 
   -- they make a set, where the figures have no fault
-  pub lawful : (grain : ℕ) → about_models grain costs periods ≡ None → (n grain' : ℕ) → n ≡ length costs → grain' ≡ grain → Lawful n grain' models slots
-  lawful grain none n grain' e₁ e₂ = rw (e₁, e₂) record {
+  pub lawful_slots : (grain : ℕ) → about_models grain costs periods ≡ None → (n grain' : ℕ) → n ≡ length costs → grain' ≡ grain → Lawful n grain' models slots
+  lawful_slots grain none n grain' e₁ e₂ = rw (e₁, e₂) record {
     timed = λ i h. rw (period_is i) (sound i h).0;
     costed = λ i h. rw (cost_is i, period_is i) (sound i h).1;
     clear = λ i h. (cost_is i ∙ get_or_past costs i 0 h, period_is i ∙ get_or_past periods i 0 (omega arith));

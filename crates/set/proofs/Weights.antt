@@ -13,8 +13,13 @@ weight_exact cost grain period h = grind (arith, times)
 weight_fits : (cost grain period : ℕ) → cost ≤ period → cost * (grain / period) ≤ grain
 weight_fits cost grain period h = grind (arith, div-mul-le_self, mul-le-mul_right)
 
+quotient_some : (q period grain : ℕ) → q * period ≡ grain → 1 ≤ grain → 1 ≤ q
+quotient_some q period grain e h = grind arith
+
 weight_some : (cost grain period : ℕ) → 1 ≤ cost → 1 ≤ grain → grain % period ≡ 0 → 1 ≤ cost * (grain / period)
-weight_some cost grain period some-cost some-grain h = grind (arith, times)
+weight_some cost grain period some-cost some-grain h =
+    let some = quotient_some (grain / period) period grain (times grain period h) some-grain in
+    grind arith
 
 pub weighs : (set : Set) (i : ℕ) → i < models_of set → Weighs set i (weight_of set i)
 weighs set i h =
