@@ -1,11 +1,11 @@
-// Prints many set files: each line of standard input is one, in hexadecimal digits.
+//! Prints many set files: each line of standard input is one, in hexadecimal digits.
 #![tactic(auto)]
 
 use printout::print_to;
 use std::alloc::{AllocError, Global};
 use std::io::{BufRead, BufReader};
 
-// The value of a hexadecimal digit; any other byte, a capital too, counts as 0, as the library's digits do not.
+/// The value of a hexadecimal digit; any other byte, a capital too, counts as 0, as the library's digits do not.
 fn digit(byte: u8) -> u8 {
     match byte {
         b'0'..=b'9' => byte - b'0',
@@ -14,7 +14,7 @@ fn digit(byte: u8) -> u8 {
     }
 }
 
-// The bytes that pairs of digits stand for.
+/// The bytes that pairs of digits stand for.
 fn decoded(heap: Global, line: &[u8]) -> Result<Vec<u8>, AllocError> {
     let (pairs, _) = line.as_chunks::<2>();
     let mut bytes = Vec::new(heap);

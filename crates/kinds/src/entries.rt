@@ -1,18 +1,18 @@
-// Entries of an agenda, and their order.
+//! Entries of an agenda, and their order.
 ghost use Rattle.order.specs.Keys.{by_keys};
 ghost use Rattle.order.proofs.Keyed.{by_keys-OrderLaws};
 ghost use Rattle.kinds.specs.Keys.{by_tick};
 
 use order::Order;
 
-// A date of a model.
+/// A date of a model.
 #[derive(Clone, Copy, Debug, PartialEq, Eq, Hash)]
 pub struct Entry {
     pub tick: u32,
     pub model: u32,
 }
 
-// The earlier tick first; ties by model number.
+/// The earlier tick first; ties by model number.
 #[derive(Clone, Copy, Debug, Default, PartialEq, Eq, Hash)]
 pub struct ByTick;
 

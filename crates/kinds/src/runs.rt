@@ -1,11 +1,11 @@
-// Runs that are not complete yet, and two orders of them.
+//! Runs that are not complete yet, and two orders of them.
 ghost use Rattle.order.specs.Keys.{by_keys};
 ghost use Rattle.order.proofs.Keyed.{by_keys-OrderLaws};
 ghost use Rattle.kinds.specs.Keys.{by_model, by_remaining};
 
 use order::Order;
 
-// A run of a model: the tick that is its deadline, and the parts that it still needs.
+/// A run of a model: the tick that is its deadline, and the parts that it still needs.
 #[derive(Clone, Copy, Debug, PartialEq, Eq, Hash)]
 pub struct Run {
     pub model: u32,
@@ -13,7 +13,7 @@ pub struct Run {
     pub remaining: u64,
 }
 
-// The earlier deadline first; ties by model number.
+/// The earlier deadline first; ties by model number.
 #[derive(Clone, Copy, Debug, Default, PartialEq, Eq, Hash)]
 pub struct ByModel;
 
@@ -33,7 +33,7 @@ impl Order for ByModel {
     }
 }
 
-// The earlier deadline first; ties by fewer parts remaining, then by model number.
+/// The earlier deadline first; ties by fewer parts remaining, then by model number.
 #[derive(Clone, Copy, Debug, Default, PartialEq, Eq, Hash)]
 pub struct ByRemaining;
 

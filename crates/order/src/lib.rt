@@ -1,11 +1,11 @@
-// What an order of things is: which of two things comes first.
+//! What an order of things is: which of two things comes first.
 #![tactic(auto)]
 
 ghost use Rattle.std.specs.Prelude.{◌≡◌, ℕ, Bool};
 ghost use Rattle.order.specs.Laws.{OrderLaws};
 
-// An order of one kind of thing. Each thing belongs to a model and has a moment, of any width.
-// The kind is an associated type, since an order is of one kind: a bound then names it once, as `Order<Item = T>`.
+/// An order of one kind of thing. Each thing belongs to a model and has a moment, of any width.
+/// The kind is an associated type, since an order is of one kind: a bound then names it once, as `Order<Item = T>`.
 pub trait Order {
     type Item;
 
@@ -13,13 +13,13 @@ pub trait Order {
 
     ghost moment: { Self.Item → ℕ };
 
-    // What the order means: whether the first of two things precedes the second.
+    /// What the order means: whether the first of two things precedes the second.
     ghost precedes: { Self → Self.Item → Self.Item → Bool };
 
-    // What each `impl` must prove.
+    /// What each `impl` must prove.
     ghost laws: { (o : Self) → OrderLaws model moment (precedes o) };
 
-    // Whether a precedes b.
+    /// Whether a precedes b.
     fn before(&self, a: &Self::Item, b: &Self::Item) -> bool
         ensures { result ≡ precedes self.now a.now b.now };
 }

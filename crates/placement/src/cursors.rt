@@ -6,7 +6,7 @@ use crate::weighed::Weighed;
 use plan::pieces::Pieces;
 use refusal::{Fault, Layer, Refusal};
 
-// The worker that light models are being put on, and its load so far.
+/// The worker that light models are being put on, and its load so far.
 #[derive(Clone, Copy)]
 pub(crate) struct Cursor {
     pub worker: u32,
@@ -14,7 +14,7 @@ pub(crate) struct Cursor {
 }
 
 impl Cursor {
-    // Where a light model goes, or a refusal where it does not fit on the last worker.
+    /// Where a light model goes, or a refusal where it does not fit on the last worker.
     pub(crate) fn seat(
         self,
         weighed: &Weighed<'_>,
@@ -52,7 +52,7 @@ impl Cursor {
         })
     }
 
-    // The worker that these pieces end on, and its load then.
+    /// The worker that these pieces end on, and its load then.
     pub(crate) fn moved(self, pieces: Pieces) -> Cursor
         requires worker { (moved self pieces).worker ≤ 32 }
         requires load { (moved self pieces).load ≤ 100800 }

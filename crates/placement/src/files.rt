@@ -7,7 +7,7 @@ use crate::places::place;
 use plan::plans::Plan;
 use refusal::Refusal;
 
-// The plan of a set file: the file is read, and its set is placed.
+/// The plan of a set file: the file is read, and its set is placed.
 pub fn place_file(bytes: &[u8]) -> Result<Plan, Refusal>
     ensures places { PlacesFile bytes.now result }
     ensures modest { (s : Set) → bytes.now ≡ file_of s → Modest s → is_ok result ≡ true }

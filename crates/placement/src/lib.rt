@@ -1,4 +1,4 @@
-// Placement: from a checked set, or a set file, to a plan.
+//! Placement: from a checked set, or a set file, to a plan.
 #![tactic(auto)]
 
 mod cursors;

@@ -13,8 +13,8 @@ use refusal::Refusal;
 use set::sets::Set;
 use set::sizes::{MODELS, WORKERS};
 
-// The plan of a set, by the rules. A set is never refused whose models weigh at most k / (k + 1) of what the workers can do,
-// or all of it where the workers are one group.
+/// The plan of a set, by the rules. A set is never refused whose models weigh at most k / (k + 1) of what the workers can do,
+/// or all of it where the workers are one group.
 pub fn place(set: &Set) -> Result<Plan, Refusal>
     ensures places { Places set.now result }
     ensures modest { Modest set.now → is_ok result ≡ true }
@@ -31,7 +31,7 @@ pub fn place(set: &Set) -> Result<Plan, Refusal>
     })
 }
 
-// Where each model goes, or a refusal for the first light one that finds no room.
+/// Where each model goes, or a refusal for the first light one that finds no room.
 fn seat_all(weighed: &Weighed<'_>) -> Result<[Pieces; MODELS], Refusal>
     requires { room_for_light weighed.now.set.now ≡ true }
     ensures { Answers (first_below (about_light weighed.now.set.now) (models_of weighed.now.set.now)) result (Seated weighed.now.set.now (models_of weighed.now.set.now)) }
@@ -41,7 +41,7 @@ fn seat_all(weighed: &Weighed<'_>) -> Result<[Pieces; MODELS], Refusal>
     Ok(pieces)
 }
 
-// Writes where each model goes, until the first one that finds no room.
+/// Writes where each model goes, until the first one that finds no room.
 fn fill_seats(weighed: &Weighed<'_>, seats: &mut [Pieces]) -> Result<(), Refusal>
     requires all { length seats.old ≡ models_of weighed.now.set.now }
     requires room { room_for_light weighed.now.set.now ≡ true }
@@ -54,7 +54,7 @@ fn fill_seats(weighed: &Weighed<'_>, seats: &mut [Pieces]) -> Result<(), Refusal
     Ok(())
 }
 
-// The loads that these pieces put on the workers.
+/// The loads that these pieces put on the workers.
 fn loads_of(pieces: &[Pieces]) -> [u32; WORKERS]
     requires few { length pieces.now ≤ 64 }
     requires within { (i : ℕ) → i < length pieces.now → (1 ≤ worker_of (pieces_at pieces.now i)) × (last_of (pieces_at pieces.now i) ≤ 32) }
@@ -68,7 +68,7 @@ fn loads_of(pieces: &[Pieces]) -> [u32; WORKERS]
     loads
 }
 
-// Adds what these pieces put on their workers.
+/// Adds what these pieces put on their workers.
 fn add_pieces(loads: &mut [u32; WORKERS], pieces: Pieces)
     requires first { 1 ≤ worker_of pieces }
     requires last { last_of pieces ≤ 32 }

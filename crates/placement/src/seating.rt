@@ -8,7 +8,7 @@ use crate::weighed::{Weighed, is_heavy, known_weight};
 use plan::pieces::Pieces;
 use refusal::Refusal;
 
-// How far placement has come: how many heavy models there were, and the worker that light ones are being put on.
+/// How far placement has come: how many heavy models there were, and the worker that light ones are being put on.
 #[derive(Clone, Copy)]
 pub(crate) struct Walk {
     heavies: u32,
@@ -16,7 +16,7 @@ pub(crate) struct Walk {
 }
 
 impl Walk {
-    // Before the first model.
+    /// Before the first model.
     pub(crate) fn new(weighed: &Weighed<'_>) -> Walk
         ensures heavies { result.heavies ≡ 0 }
         ensures cursor { result.cursor ≡ cursor weighed.now.set.now 0 }
@@ -30,7 +30,7 @@ impl Walk {
         }
     }
 
-    // Where the next model, in slot i, goes, or a refusal where it is light and finds no room.
+    /// Where the next model, in slot i, goes, or a refusal where it is light and finds no room.
     pub(crate) fn seat(&mut self, weighed: &Weighed<'_>, i: usize) -> Result<Pieces, Refusal>
         requires model { i < models_of weighed.now.set.now }
         requires room { room_for_light weighed.now.set.now ≡ true }

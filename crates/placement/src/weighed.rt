@@ -6,7 +6,7 @@ ghost use Rattle.placement.specs.Rules.{is_heavy_weight, alone_of, room_for_ligh
 use refusal::{Fault, Layer, Refusal};
 use set::sets::Set;
 
-// A set whose heavy models are counted: workers 1 to `alone` are groups of one, one for each of them.
+/// A set whose heavy models are counted: workers 1 to `alone` are groups of one, one for each of them.
 #[derive(Clone, Copy)]
 pub(crate) struct Weighed<'a> {
     pub(crate) set: &'a Set,
@@ -24,7 +24,7 @@ impl<'a> Weighed<'a> {
         }
     }
 
-    // Refuses heavy models that are more than the workers, or that leave no worker for a light one.
+    /// Refuses heavy models that are more than the workers, or that leave no worker for a light one.
     pub(crate) fn check_room(&self) -> Result<(), Refusal>
         ensures { Answers (check (room_for_light self.now.set.now) (too_heavy (alone_of self.now.set.now)) None) result (λ _. Unit {0}) }
     {
@@ -37,7 +37,7 @@ impl<'a> Weighed<'a> {
     }
 }
 
-// How many models are heavy.
+/// How many models are heavy.
 fn count_heavy(set: &Set) -> u32
     ensures { result ≡ alone_of set.now }
 {
@@ -49,7 +49,7 @@ fn count_heavy(set: &Set) -> u32
     count
 }
 
-// The weight of a model of the set.
+/// The weight of a model of the set.
 pub(crate) fn known_weight(set: &Set, model: u32) -> u32
     requires { HasModel set.now model }
     ensures { Weighs set.now (model - 1) result }
@@ -57,7 +57,7 @@ pub(crate) fn known_weight(set: &Set, model: u32) -> u32
     set.weight(model).unwrap()
 }
 
-// Whether a model of this weight is heavy.
+/// Whether a model of this weight is heavy.
 pub(crate) fn is_heavy(set: &Set, weight: u32) -> bool
     requires { weight ≤ grain_of set.now }
     ensures { result ≡ is_heavy_weight set.now weight }

@@ -1,4 +1,4 @@
-// A plan: which worker runs which model, whole or in two pieces.
+//! A plan: which worker runs which model, whole or in two pieces.
 #![tactic(auto)]
 
 pub mod groups;

@@ -1,15 +1,15 @@
 ghost use Rattle.std.specs.Prelude.{◌≡◌};
 ghost use Rattle.plan.specs.Shares.{worker_of};
 
-// Where a model runs, and how many parts of each tick it has there. Workers are counted from 1.
+/// Where a model runs, and how many parts of each tick it has there. Workers are counted from 1.
 #[derive(Clone, Copy, Debug, PartialEq, Eq, Hash)]
 pub enum Pieces {
-    // all of it on one worker
+    /// all of it on one worker
     Whole {
         worker: u32,
         size: u32,
     },
-    // the first piece on a worker, the second on the next
+    /// the first piece on a worker, the second on the next
     Divided {
         worker: u32,
         first: u32,
@@ -18,7 +18,7 @@ pub enum Pieces {
 }
 
 impl Pieces {
-    // The worker of the whole model, or of its first piece.
+    /// The worker of the whole model, or of its first piece.
     pub fn worker(self) -> u32
         ensures { result ≡ worker_of self }
     {

@@ -5,8 +5,8 @@ use crate::pieces::Pieces;
 use set::sets::Set;
 use set::sizes::{MODELS, WORKERS};
 
-// Which worker runs which model: the set, the pieces of each model, and the load of each worker.
-// Workers 1 to `alone` are groups of one; the others stand in groups of the set's group size.
+/// Which worker runs which model: the set, the pieces of each model, and the load of each worker.
+/// Workers 1 to `alone` are groups of one; the others stand in groups of the set's group size.
 #[derive(Clone, Copy, Debug, PartialEq, Eq, Hash)]
 pub struct Plan {
     pub set: Set,

@@ -1,4 +1,4 @@
-// Prints the plan of the set file on standard input, or the refusal of it.
+//! Prints the plan of the set file on standard input, or the refusal of it.
 #![tactic(auto)]
 
 use printout::print_to;

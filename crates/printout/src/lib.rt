@@ -1,4 +1,4 @@
-// What is printed of a set file, as text in memory that the caller lends.
+//! What is printed of a set file, as text in memory that the caller lends.
 #![tactic(auto)]
 
 ghost use Rattle.std.specs.Prelude.{◌≡◌, ◌≤◌, length, MatchResult, OnOk};
@@ -15,10 +15,10 @@ use std::io::Write;
 mod lines;
 mod page;
 
-// The least memory that a text is written to: every text fits it.
+/// The least memory that a text is written to: every text fits it.
 pub const TEXT_BYTES: usize = 16384;
 
-// Prints the plan of a set file, or the refusal of it, and answers how many bytes the text has.
+/// Prints the plan of a set file, or the refusal of it, and answers how many bytes the text has.
 pub fn print_file(bytes: &[u8], text: &mut [u8]) -> Result<usize, Refusal>
     ensures prints { Answers (about_memory (length text.old)) result (Printed bytes.now text.old text.new) }
     ensures lent { MatchResult result (λ n. n ≤ length text.new) (λ _. text.new ≡ text.old) }
@@ -29,7 +29,7 @@ pub fn print_file(bytes: &[u8], text: &mut [u8]) -> Result<usize, Refusal>
     Ok(print_into(bytes, text))
 }
 
-// Prints the plan of a set file, or the refusal of it, to a writer.
+/// Prints the plan of a set file, or the refusal of it, to a writer.
 pub fn print_to<W: Write>(bytes: &[u8], out: &mut W) -> io::Result<()>
     ensures { OnOk result (PrintedTo bytes.now (W.contents out.old) (W.contents out.new)) }
 {
@@ -38,7 +38,7 @@ pub fn print_to<W: Write>(bytes: &[u8], out: &mut W) -> io::Result<()>
     out.write_all(&text[..len])
 }
 
-// Prints into memory that is large enough.
+/// Prints into memory that is large enough.
 fn print_into(bytes: &[u8], text: &mut [u8]) -> usize
     requires { 16384 ≤ length text.old }
     ensures prints { Printed bytes.now text.old text.new result }

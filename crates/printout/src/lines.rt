@@ -1,4 +1,4 @@
-// The lines of the text, one function for each part of it.
+//! The lines of the text, one function for each part of it.
 ghost use Rattle.printout.specs.Pages.{Fits, Appends};
 ghost use Rattle.printout.specs.Texts.{refused_text, pieces_text, loads_text, models_text, plan_text, text_of};
 
@@ -7,7 +7,7 @@ use plan::pieces::Pieces;
 use plan::plans::Plan;
 use refusal::Refusal;
 
-// The one line of a refusal.
+/// The one line of a refusal.
 fn refusal_line(page: &mut Page<'_>, refusal: Refusal)
     requires { Fits page.old (refused_text refusal) }
     ensures { Appends page.old (refused_text refusal) page.new }
@@ -21,7 +21,7 @@ fn refusal_line(page: &mut Page<'_>, refusal: Refusal)
     page.put("\n");
 }
 
-// A line for each piece of a model.
+/// A line for each piece of a model.
 fn pieces_lines(page: &mut Page<'_>, model: u64, pieces: Pieces)
     requires { Fits page.old (pieces_text model pieces) }
     ensures { Appends page.old (pieces_text model pieces) page.new }
@@ -39,7 +39,7 @@ fn pieces_lines(page: &mut Page<'_>, model: u64, pieces: Pieces)
     }
 }
 
-// A line for each worker's load.
+/// A line for each worker's load.
 fn load_lines(page: &mut Page<'_>, plan: &Plan)
     requires { Fits page.old (loads_text plan.now) }
     ensures { Appends page.old (loads_text plan.now) page.new }
@@ -50,7 +50,7 @@ fn load_lines(page: &mut Page<'_>, plan: &Plan)
     }
 }
 
-// The lines of all models' pieces.
+/// The lines of all models' pieces.
 fn model_lines(page: &mut Page<'_>, plan: &Plan)
     requires { Fits page.old (models_text plan.now) }
     ensures { Appends page.old (models_text plan.now) page.new }
@@ -61,7 +61,7 @@ fn model_lines(page: &mut Page<'_>, plan: &Plan)
     }
 }
 
-// All lines of a plan.
+/// All lines of a plan.
 fn plan_lines(page: &mut Page<'_>, plan: &Plan)
     requires { Fits page.old (plan_text plan.now) }
     ensures { Appends page.old (plan_text plan.now) page.new }
@@ -81,7 +81,7 @@ fn plan_lines(page: &mut Page<'_>, plan: &Plan)
     page.line("end", &[]);
 }
 
-// All lines of what placing a file gave.
+/// All lines of what placing a file gave.
 pub(crate) fn text_lines(page: &mut Page<'_>, placed: Result<Plan, Refusal>)
     requires { Fits page.old (text_of placed) }
     ensures { Appends page.old (text_of placed) page.new }

@@ -1,12 +1,12 @@
-// Text in memory that somebody lent.
+//! Text in memory that somebody lent.
 ghost use Rattle.std.specs.Prelude.{◌≡◌, decimal};
 ghost use Rattle.printout.specs.Lines.{line_of};
 ghost use Rattle.printout.specs.Pages.{memory, Fits, Appends};
 
 use itoa::Buffer;
 
-// The first `len` bytes are written so far. The memory is the caller's, so how much is written stands beside it.
-// `write!` into it was tried: its contract lets any writer fail (`unwrap-requires` stays open), and here nothing may.
+/// The first `len` bytes are written so far. The memory is the caller's, so how much is written stands beside it.
+/// `write!` into it was tried: its contract lets any writer fail (`unwrap-requires` stays open), and here nothing may.
 #[derive(Drop)]
 pub(crate) struct Page<'a> {
     bytes: &'a mut [u8],
@@ -14,7 +14,7 @@ pub(crate) struct Page<'a> {
 }
 
 impl<'a> Page<'a> {
-    // Nothing is written yet.
+    /// Nothing is written yet.
     pub(crate) fn new(bytes: &'a mut [u8]) -> Page<'a>
         ensures none { result.len ≡ 0 }
         ensures over { memory result ≡ bytes.old }
@@ -23,14 +23,14 @@ impl<'a> Page<'a> {
         Page { bytes, len: 0 }
     }
 
-    // How many bytes are written.
+    /// How many bytes are written.
     pub(crate) fn len(&self) -> usize
         ensures { result ≡ self.now.len }
     {
         self.len
     }
 
-    // Appends `s`, for which the caller sees that there is room.
+    /// Appends `s`, for which the caller sees that there is room.
     pub(crate) fn put(&mut self, s: &str)
         requires { Fits self.old s.now }
         ensures { Appends self.old s.now self.new }
@@ -41,7 +41,7 @@ impl<'a> Page<'a> {
         self.len = end;
     }
 
-    // Appends `n` in decimal digits.
+    /// Appends `n` in decimal digits.
     pub(crate) fn number(&mut self, n: u64)
         requires { Fits self.old (decimal n) }
         ensures { Appends self.old (decimal n) self.new }
@@ -50,7 +50,7 @@ impl<'a> Page<'a> {
         self.put(digits.format(n));
     }
 
-    // Appends the tag, then each number behind a space, and the end of the line.
+    /// Appends the tag, then each number behind a space, and the end of the line.
     pub(crate) fn line(&mut self, tag: &str, numbers: &[u64])
         requires { Fits self.old (line_of tag.now numbers.now) }
         ensures { Appends self.old (line_of tag.now numbers.now) self.new }

@@ -1,4 +1,4 @@
-// Taking many things at once.
+//! Taking many things at once.
 ghost use Rattle.std.specs.Prelude.{◌≡◌, ◌-◌, ◌≤◌, length, take};
 ghost use Rattle.std.specs.List.Sorted.{IsPermutation};
 ghost use Rattle.queue.specs.Heaps.{Served};
@@ -8,7 +8,7 @@ use super::Queue;
 use order::Order;
 
 impl<'a, T: Copy> Queue<'a, T> {
-    // Moves things to `out` in order, until none is held or `out` is full; answers how many.
+    /// Moves things to `out` in order, until none is held or `out` is full; answers how many.
     pub fn drain<O: Order<Item = T>>(&mut self, order: &O, out: &mut [T]) -> usize
         ensures drains { Drained (O.precedes order.now) result self.old self.new out.old out.new }
         ensures left { count_of self.new ≡ count_of self.old - length out.old }

@@ -1,4 +1,4 @@
-// A queue over lent slots, from which what comes first is taken first.
+//! A queue over lent slots, from which what comes first is taken first.
 #![tactic(auto)]
 
 ghost use Rattle.std.specs.Prelude.{◌≤◌, length, Some, codes};
@@ -10,9 +10,9 @@ mod sift;
 use std::error::Error;
 use std::fmt;
 
-// A heap: the things stand in the first `count` slots, none of them before its parent, which for slot k is slot (k - 1) / 2.
-// A lent slice and a count, since nothing allocates. The order in which they stand is lent to each call, so a queue owns none.
-// No view by `Model`: clauses speak of the slots, the count and the loan, and that is all there is.
+/// A heap: the things stand in the first `count` slots, none of them before its parent, which for slot k is slot (k - 1) / 2.
+/// A lent slice and a count, since nothing allocates. The order in which they stand is lent to each call, so a queue owns none.
+/// No view by `Model`: clauses speak of the slots, the count and the loan, and that is all there is.
 #[derive(Drop)]
 pub struct Queue<'a, T> {
     slots: &'a mut [T],
@@ -24,7 +24,7 @@ impl<T> Queue<'_, T> {
     ghost use Rattle.std.specs.Prelude.{◌≡◌};
     ghost use Rattle.queue.specs.Queues.{held};
 
-    // How many things it holds.
+    /// How many things it holds.
     pub fn len(&self) -> usize
         ensures { result ≡ length (held self.now) }
     {
@@ -32,7 +32,7 @@ impl<T> Queue<'_, T> {
     }
 }
 
-// Why a thing was not put: every slot is in use.
+/// Why a thing was not put: every slot is in use.
 #[derive(Clone, Copy, Debug, PartialEq, Eq, Hash)]
 pub struct Full;
 

@@ -1,4 +1,4 @@
-// What can be done with a queue.
+//! What can be done with a queue.
 ghost use Rattle.std.specs.Prelude.{◌≡◌, ◌<◌, Bool, length, IfSome, MatchOption, MatchResult};
 ghost use Rattle.queue.specs.Heaps.{Unpreceded};
 ghost use Rattle.queue.specs.Queues.{slots_of, count_of, held, Ordered, OneMore, Stays};
@@ -7,7 +7,7 @@ use super::{Full, Queue};
 use order::Order;
 
 impl<'a, T> Queue<'a, T> {
-    // A queue that holds nothing, over lent slots.
+    /// A queue that holds nothing, over lent slots.
     pub fn new(slots: &'a mut [T]) -> Queue<'a, T>
         ensures over { slots_of result ≡ slots.old }
         ensures empty { count_of result ≡ 0 }
@@ -19,7 +19,7 @@ impl<'a, T> Queue<'a, T> {
 }
 
 impl<'a, T: Copy> Queue<'a, T> {
-    // Adds a thing, unless all slots are in use.
+    /// Adds a thing, unless all slots are in use.
     #[tactic(auto, using(crate::proofs::Holes::put_holds))]
     pub fn put<O: Order<Item = T>>(&mut self, order: &O, thing: T) -> Result<(), Full>
         ensures puts { MatchResult result (λ _. OneMore thing self.old self.new) (λ _. (count_of self.old ≡ length (slots_of self.old)) × (self.new ≡ self.old)) }
@@ -34,7 +34,7 @@ impl<'a, T: Copy> Queue<'a, T> {
         Ok(())
     }
 
-    // Takes out what no other thing that it holds precedes, unless it holds nothing.
+    /// Takes out what no other thing that it holds precedes, unless it holds nothing.
     pub fn take<O: Order<Item = T>>(&mut self, order: &O) -> Option<T>
         ensures takes { MatchOption result ((count_of self.old ≡ 0) × (self.new ≡ self.old)) (λ thing. OneMore thing self.new self.old) }
         ensures first { Ordered (O.precedes order.now) self.old → IfSome result (Unpreceded (O.precedes order.now) (held self.old)) }
@@ -46,7 +46,7 @@ impl<'a, T: Copy> Queue<'a, T> {
         Some(self.take_first(order))
     }
 
-    // Takes out what stands in the first slot; the thing in the last slot sinks from there.
+    /// Takes out what stands in the first slot; the thing in the last slot sinks from there.
     #[tactic(auto, using(crate::proofs::Holes::took))]
     pub(crate) fn take_first<O: Order<Item = T>>(&mut self, order: &O) -> T
         requires { 0 < count_of self.old }

@@ -1,4 +1,4 @@
-// How a thing finds its slot: others move along into the hole, until it may stand in the hole itself.
+//! How a thing finds its slot: others move along into the hole, until it may stand in the hole itself.
 ghost use Rattle.std.specs.Prelude.{◌+◌, ◌*◌, ◌<◌, ◌≤◌, length, slice_set};
 ghost use Rattle.queue.specs.Heaps.{Heaped, FirstChild};
 ghost use Rattle.queue.specs.Queues.{slots_of, count_of, Sifted};
@@ -7,7 +7,7 @@ use super::Queue;
 use order::Order;
 
 impl<'a, T: Copy> Queue<'a, T> {
-    // Makes room for a thing on the way up from the first free slot.
+    /// Makes room for a thing on the way up from the first free slot.
     pub(crate) fn rise<O: Order<Item = T>>(&mut self, order: &O, thing: T)
         requires { count_of self.old < length (slots_of self.old) }
         ensures sifts { Sifted (count_of self.old + 1) (slice_set (slots_of self.old) (count_of self.old) thing) self.old self.new }
@@ -27,7 +27,7 @@ impl<'a, T: Copy> Queue<'a, T> {
         self.slots[hole] = thing;
     }
 
-    // Makes room for a thing on the way down from the first slot, among the first `left`.
+    /// Makes room for a thing on the way down from the first slot, among the first `left`.
     pub(crate) fn sink<O: Order<Item = T>>(&mut self, order: &O, thing: T, left: usize)
         requires { left < length (slots_of self.old) }
         ensures sifts { Sifted left (slice_set (slots_of self.old) 0 thing) self.old self.new }
@@ -47,7 +47,7 @@ impl<'a, T: Copy> Queue<'a, T> {
         self.slots[hole] = thing;
     }
 
-    // The slot of that child of `parent`, among the first `left`, which no other precedes.
+    /// The slot of that child of `parent`, among the first `left`, which no other precedes.
     fn first_child<O: Order<Item = T>>(&self, order: &O, parent: usize, left: usize) -> usize
         requires child { parent * 2 + 1 < left }
         requires room { left ≤ length (slots_of self.now) }

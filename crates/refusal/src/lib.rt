@@ -1,4 +1,4 @@
-// Every refusal of every layer: what was wrong, which layer found it, and where.
+//! Every refusal of every layer: what was wrong, which layer found it, and where.
 #![tactic(auto)]
 
 ghost use Rattle.std.specs.Prelude.{◌≡◌, Some};
@@ -7,36 +7,36 @@ ghost use Rattle.refusal.specs.Refusals.{number_of, word_of, place_of_lent, refu
 use std::error::Error;
 use std::fmt;
 
-// What was wrong, with the number by which callers know it. docs/REFUSALS.md says when each one is answered.
+/// What was wrong, with the number by which callers know it. docs/REFUSALS.md says when each one is answered.
 #[derive(Clone, Copy, Debug, PartialEq, Eq, Hash)]
 pub enum Fault {
-    // a file, or a buffer to write one to, has too few bytes
+    /// a file, or a buffer to write one to, has too few bytes
     Short = 1,
-    // a file has too many bytes
+    /// a file has too many bytes
     Long = 2,
-    // a size of the set is outside its range
+    /// a size of the set is outside its range
     Size = 3,
-    // a period is 0 or does not divide the grain
+    /// a period is 0 or does not divide the grain
     Period = 4,
-    // a cost is 0 or above its period
+    /// a cost is 0 or above its period
     Cost = 5,
-    // the heavy models leave too few workers
+    /// the heavy models leave too few workers
     Heavy = 6,
-    // the last worker has no room for a light model
+    /// the last worker has no room for a light model
     Full = 7,
-    // lent memory is too small
+    /// lent memory is too small
     Memory = 10,
 }
 
 impl Fault {
-    // The number by which callers know the fault.
+    /// The number by which callers know the fault.
     pub fn number(self) -> u64
         ensures { result ≡ number_of self }
     {
         self as u64
     }
 
-    // The refusal for this fault, which a layer found at a place.
+    /// The refusal for this fault, which a layer found at a place.
     pub fn at(self, layer: Layer, place: u64) -> Refusal
         ensures { result ≡ record { fault = self; layer = layer; place = place } }
     {
@@ -48,7 +48,7 @@ impl Fault {
     }
 }
 
-// Who found the fault.
+/// Who found the fault.
 #[derive(Clone, Copy, Debug, PartialEq, Eq, Hash)]
 pub enum Layer {
     File,
@@ -58,7 +58,7 @@ pub enum Layer {
 }
 
 impl Layer {
-    // The word that is printed for the layer.
+    /// The word that is printed for the layer.
     pub fn word(self) -> &'static str
         ensures { result.now ≡ word_of self }
     {
@@ -79,15 +79,15 @@ impl fmt::Display for Layer {
     }
 }
 
-// Memory that a caller lends, with the place that stands for it where it is too small.
+/// Memory that a caller lends, with the place that stands for it where it is too small.
 #[derive(Clone, Copy, Debug, PartialEq, Eq, Hash)]
 pub enum Lent {
-    // for a text
+    /// for a text
     Text = 3,
 }
 
 impl Lent {
-    // The place of a refusal of this memory.
+    /// The place of a refusal of this memory.
     pub fn place(self) -> u64
         ensures { result ≡ place_of_lent self }
     {
@@ -95,7 +95,7 @@ impl Lent {
     }
 }
 
-// A fault, the layer that found it, and a place: a number that says where, or how many there were.
+/// A fault, the layer that found it, and a place: a number that says where, or how many there were.
 #[derive(Clone, Copy, Debug, PartialEq, Eq, Hash)]
 pub struct Refusal {
     pub fault: Fault,

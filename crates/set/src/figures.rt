@@ -12,19 +12,19 @@ use crate::sizes::{MODELS, SizeKind, Sizes};
 use refusal::{Fault, Layer, Refusal};
 use std::array;
 
-// What a planner brings, unchecked: the sizes, and for each model a cost and a period, both in ticks.
+/// What a planner brings, unchecked: the sizes, and for each model a cost and a period, both in ticks.
 #[derive(Clone, Copy, Debug, PartialEq, Eq, Hash)]
 pub struct Figures<'a> {
     pub workers: u32,
     pub group_size: u32,
     pub grain: u32,
-    // two slices, since a planner brings two lists, which are refused where they differ in length
+    /// two slices, since a planner brings two lists, which are refused where they differ in length
     pub costs: &'a [u32],
     pub periods: &'a [u32],
 }
 
 impl Figures<'_> {
-    // The set of these figures, or a refusal for the first fault in them.
+    /// The set of these figures, or a refusal for the first fault in them.
     pub fn check(&self) -> Result<Set, Refusal>
         ensures { Answers (about self.now) result (MadeOf self.now) }
     {
@@ -37,7 +37,7 @@ impl Figures<'_> {
         Ok(self.filled(sizes))
     }
 
-    // Refuses the first model that is at fault.
+    /// Refuses the first model that is at fault.
     fn check_models(&self) -> Result<(), Refusal>
         requires { length self.now.costs.now ≡ length self.now.periods.now }
         ensures { Answers (about_models self.now.grain self.now.costs.now self.now.periods.now) result (λ _. Unit {0}) }
@@ -48,7 +48,7 @@ impl Figures<'_> {
         Ok(())
     }
 
-    // The set of figures that are without a fault.
+    /// The set of figures that are without a fault.
     fn filled(&self, sizes: Sizes) -> Set
         requires level { length self.now.costs.now ≡ length self.now.periods.now }
         requires models { sizes.models ≡ length self.now.costs.now }
@@ -75,7 +75,7 @@ impl TryFrom<&Figures<'_>> for Set {
     }
 }
 
-// Refuses a model whose period or cost is at fault.
+/// Refuses a model whose period or cost is at fault.
 fn check_model(grain: u32, model: u64, cost: u32, period: u32) -> Result<(), Refusal>
     ensures { Answers (about_model grain model cost period) result (λ _. Unit {0}) }
 {
@@ -88,7 +88,7 @@ fn check_model(grain: u32, model: u64, cost: u32, period: u32) -> Result<(), Ref
     Ok(())
 }
 
-// Each model of these costs and periods in its slot, and 0 behind the last.
+/// Each model of these costs and periods in its slot, and 0 behind the last.
 fn slots(costs: &[u32], periods: &[u32]) -> [Model; MODELS]
     ensures { result ≡ map (slot_from costs.now periods.now) (range_with_len 0 64) }
 {
@@ -98,7 +98,7 @@ fn slots(costs: &[u32], periods: &[u32]) -> [Model; MODELS]
     })
 }
 
-// The number in slot i, or 0 behind the last.
+/// The number in slot i, or 0 behind the last.
 fn nth(numbers: &[u32], i: usize) -> u32
     ensures { result ≡ slice_index numbers.now i }
 {

@@ -1,4 +1,4 @@
-// A planner's figures, and the set that they make once they are checked.
+//! A planner's figures, and the set that they make once they are checked.
 #![tactic(auto)]
 
 pub mod figures;

@@ -4,7 +4,7 @@ ghost use Rattle.set.specs.Models.{Timed, Costed, Clear};
 use crate::models::Model;
 use crate::sizes::{MODELS, Sizes};
 
-// A set that is within all limits. Slots behind the last model are 0, so sets with the same sizes and models are equal.
+/// A set that is within all limits. Slots behind the last model are 0, so sets with the same sizes and models are equal.
 #[derive(Clone, Copy, Debug, PartialEq, Eq, Hash)]
 pub struct Set {
     pub sizes: Sizes,

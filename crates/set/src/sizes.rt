@@ -1,13 +1,15 @@
 ghost use Rattle.std.specs.Prelude.{◌≤◌};
 
-// The most models and workers that a set has, and the most parts that a tick is cut into.
+/// The most models that a set has.
 pub const MODELS: usize = 64;
 
+/// The most workers that a set has.
 pub const WORKERS: usize = 32;
 
+/// The most parts that a tick is cut into.
 pub const GRAIN: u32 = 100_800;
 
-// The four sizes, each with the place at which a refusal names it.
+/// The four sizes, each with the place at which a refusal names it.
 #[derive(Clone, Copy, Debug, PartialEq, Eq, Hash)]
 pub enum SizeKind {
     Models = 1,
@@ -16,7 +18,7 @@ pub enum SizeKind {
     Grain = 4,
 }
 
-// How many models, workers, workers to a group and parts to a tick there are.
+/// How many models, workers, workers to a group and parts to a tick there are.
 #[derive(Clone, Copy, Debug, PartialEq, Eq, Hash)]
 pub struct Sizes {
     pub models: u32,

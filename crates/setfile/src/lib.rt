@@ -1,4 +1,4 @@
-// Set files: a set as 32-bit little-endian words, read and written.
+//! Set files: a set as 32-bit little-endian words, read and written.
 #![tactic(auto)]
 
 ghost use Rattle.std.specs.Prelude.{◌≡◌, ℕ, ◌+◌, ◌*◌, ◌<◌, ◌≤◌, List, length, Ok, MatchResult, slice_index};
@@ -14,7 +14,7 @@ use set::sets::Set;
 use set::sizes::{MODELS, Sizes};
 use std::array;
 
-// The set of a file. The file of a set reads as that set, and no other file does.
+/// The set of a file. The file of a set reads as that set, and no other file does.
 pub fn read(bytes: &[u8]) -> Result<Set, Refusal>
     ensures reads { Reads bytes.now result }
     ensures back { (s : Set) → bytes.now ≡ file_of s → result ≡ Ok s }
@@ -46,7 +46,7 @@ pub fn read(bytes: &[u8]) -> Result<Set, Refusal>
     figures.check()
 }
 
-// Writes the file of the set that the figures make, and answers how many bytes it has. A refusal leaves the buffer.
+/// Writes the file of the set that the figures make, and answers how many bytes it has. A refusal leaves the buffer.
 pub fn write(figures: &Figures, buffer: &mut [u8]) -> Result<usize, Refusal>
     ensures answers { Answers (about_writing figures.now (length buffer.old)) result (λ n. n ≡ size_for (length figures.now.costs.now)) }
     ensures written { MatchResult result (λ n. Wrote figures.now n buffer.old buffer.new) (λ _. buffer.new ≡ buffer.old) }
@@ -61,7 +61,7 @@ pub fn write(figures: &Figures, buffer: &mut [u8]) -> Result<usize, Refusal>
     Ok(size)
 }
 
-// Fills the place with the file of the set.
+/// Fills the place with the file of the set.
 fn put_file(set: &Set, place: &mut [u8])
     requires { length place.old ≡ size_for (models_of set.now) }
     ensures { place.new ≡ file_of set.now }
@@ -83,7 +83,7 @@ fn put_file(set: &Set, place: &mut [u8])
     period_row.copy_from_slice(periods[..count].as_flattened());
 }
 
-// The bytes of a file with this many models.
+/// The bytes of a file with this many models.
 fn file_size(models: usize) -> usize
     requires { models ≤ 64 }
     ensures { result ≡ size_for models }
@@ -91,7 +91,7 @@ fn file_size(models: usize) -> usize
     16 + 8 * models
 }
 
-// The first N words of the bytes, and 0 for those behind the last whole one.
+/// The first N words of the bytes, and 0 for those behind the last whole one.
 fn words<const N: usize>(bytes: &[u8]) -> [u32; N]
     ensures { (i : ℕ) → i < N → 4 * i + 4 ≤ length bytes.now → slice_index result i ≡ word_at bytes.now (4 * i) }
 {

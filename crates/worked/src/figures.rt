@@ -1,10 +1,10 @@
-// Figures that cannot come from a file, and the weights of a set.
+//! Figures that cannot come from a file, and the weights of a set.
 use refusal::{Fault, Layer, Refusal};
 use set::figures::Figures;
 use set::sets::Set;
 use std::test::Fail;
 
-// The set of two workers in one group, at a grain of 10.
+/// The set of two workers in one group, at a grain of 10.
 fn checked<'a>(costs: &'a [u32], periods: &'a [u32]) -> Result<Set, Refusal> {
     let figures = Figures {
         workers: 2,

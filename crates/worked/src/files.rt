@@ -1,10 +1,10 @@
-// Set files that are written, and lent memory that is too small.
+//! Set files that are written, and lent memory that is too small.
 use printout::print_file;
 use refusal::{Fault, Layer};
 use set::figures::Figures;
 use std::test::Fail;
 
-// Two models on one worker.
+/// Two models on one worker.
 const SMALL: Figures<'static> = Figures {
     workers: 1,
     group_size: 1,

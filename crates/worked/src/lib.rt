@@ -1,4 +1,4 @@
-// Worked examples, as tests over all layers: what a planner brings, and what each layer answers.
+//! Worked examples, as tests over all layers: what a planner brings, and what each layer answers.
 #![tactic(auto)]
 
 #[cfg(test)]

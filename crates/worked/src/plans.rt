@@ -1,4 +1,4 @@
-// Sets whose weights are given with the grain as period, and their plans.
+//! Sets whose weights are given with the grain as period, and their plans.
 use placement::place;
 use plan::groups::Workers;
 use plan::pieces::Pieces;
@@ -7,7 +7,7 @@ use refusal::{Fault, Layer, Refusal};
 use set::figures::Figures;
 use std::test::Fail;
 
-// The plan of at most 64 weights.
+/// The plan of at most 64 weights.
 fn placed(workers: u32, group_size: u32, grain: u32, weights: &[u32]) -> Result<Plan, Refusal> {
     let periods = [grain; 64];
     let count = weights.len().min(64);

@@ -10,14 +10,14 @@ use crate::pieces::Pieces;
 use set::sizes::{Sizes, WORKERS};
 
 impl Plan {
-    // How many models, workers, workers to a group and parts to a tick there are.
+    /// How many models, workers, workers to a group and parts to a tick there are.
     pub fn sizes(&self) -> Sizes
         ensures { result ≡ self.now.set.sizes }
     {
         self.set.sizes
     }
 
-    // Where a model runs.
+    /// Where a model runs.
     pub fn pieces_of(&self, model: u32) -> Option<Pieces>
         ensures { OfModel self.now.set model result (λ x. x ≡ pieces_at self.now.pieces (model - 1)) }
     {
@@ -25,7 +25,7 @@ impl Plan {
         Some(self.pieces[i])
     }
 
-    // The parts of each tick that a worker's pieces take.
+    /// The parts of each tick that a worker's pieces take.
     pub fn load_of(&self, worker: u32) -> Option<u32>
         ensures { MatchOption result (Worker self.now worker → ⊥) (λ x. Worker self.now worker × (x ≡ slice_index self.now.loads (worker - 1))) }
     {
@@ -35,14 +35,14 @@ impl Plan {
         Some(self.loads[worker as usize - 1])
     }
 
-    // The loads of all workers together, as one value.
+    /// The loads of all workers together, as one value.
     pub fn all_loads(&self) -> [u32; WORKERS]
         ensures { result ≡ self.now.loads }
     {
         self.loads
     }
 
-    // How many groups there are.
+    /// How many groups there are.
     pub fn group_count(&self) -> u32
         ensures { Counts (group_in self.now) (worker_count_of self.now.set) result }
     {
@@ -50,14 +50,14 @@ impl Plan {
         groups.count()
     }
 
-    // The first and the last worker of a group.
+    /// The first and the last worker of a group.
     pub fn workers_in(&self, group: u32) -> Option<Workers>
         ensures { MatchOption result (NoGroup (group_in self.now) (worker_count_of self.now.set) group) (λ w. Group (group_in self.now) (worker_count_of self.now.set) group w.first w.last) }
     {
         self.grouping().workers_in(group)
     }
 
-    // The group that a model runs in.
+    /// The group that a model runs in.
     pub fn group_of(&self, model: u32) -> Option<u32>
         ensures { OfModel self.now.set model result (λ g. g ≡ group_in self.now (worker_of (pieces_at self.now.pieces (model - 1)))) }
     {
@@ -65,7 +65,7 @@ impl Plan {
         Some(self.grouping().group_of(worker))
     }
 
-    // How the plan's workers stand in groups.
+    /// How the plan's workers stand in groups.
     fn grouping(&self) -> Grouping
         ensures { result ≡ record { alone = self.now.alone; sizes = self.now.set.sizes } }
     {

@@ -4,7 +4,7 @@ ghost use Rattle.set.specs.Sets.{OfModel, Weighs, parts_of};
 use super::Set;
 
 impl Set {
-    // The slot of a model, if the set has one of this number.
+    /// The slot of a model, if the set has one of this number.
     pub fn slot(&self, model: u32) -> Option<usize>
         ensures { OfModel self.now model result (λ i. i ≡ model - 1) }
     {
@@ -14,7 +14,7 @@ impl Set {
         Some(model as usize - 1)
     }
 
-    // The parts of each tick that a model needs on the average.
+    /// The parts of each tick that a model needs on the average.
     #[tactic(auto, using(crate::proofs::Weights::weighs))]
     pub fn weight(&self, model: u32) -> Option<u32>
         ensures { OfModel self.now model result (λ w. Weighs self.now (model - 1) w) }
@@ -23,7 +23,7 @@ impl Set {
         Some(self.models[i].weight(self.sizes.grain))
     }
 
-    // The parts that each run of a model needs.
+    /// The parts that each run of a model needs.
     pub fn run_parts(&self, model: u32) -> Option<u64>
         ensures { OfModel self.now model result (λ p. p ≡ parts_of self.now (model - 1)) }
     {

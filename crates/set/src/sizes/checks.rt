@@ -6,7 +6,7 @@ use super::{GRAIN, MODELS, SizeKind, Sizes, WORKERS};
 use refusal::{Fault, Layer, Refusal};
 
 impl Sizes {
-    // The four sizes, each within its range, or a refusal for the first that is not.
+    /// The four sizes, each within its range, or a refusal for the first that is not.
     pub fn new(models: u64, workers: u32, group_size: u32, grain: u32) -> Result<Sizes, Refusal>
         ensures { Answers (about_sizes models workers group_size grain) result (λ s. (s.models ≡ models) × (s.workers ≡ workers) × (s.group_size ≡ group_size) × (s.grain ≡ grain)) }
     {
@@ -31,7 +31,7 @@ impl Sizes {
     }
 }
 
-// This size is outside its range.
+/// This size is outside its range.
 pub(crate) fn outside(kind: SizeKind) -> Refusal
     ensures { told result ≡ bad_size kind }
 {
