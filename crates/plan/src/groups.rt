@@ -42,7 +42,7 @@ impl Grouping {
         ensures { MatchOption result (NoGroup (group_of self.alone self.sizes.group_size) self.sizes.workers group) (λ w. Group (group_of self.alone self.sizes.group_size) self.sizes.workers group w.first w.last) }
     {
         let groups = self.group_of(self.sizes.workers);
-        if group < 1 || group > groups {
+        if !(1..=groups).contains(&group) {
             return None;
         }
         if group <= self.alone {

@@ -82,7 +82,7 @@ fn check_model(grain: u32, model: u64, cost: u32, period: u32) -> Result<(), Ref
     if period == 0 || grain % period != 0 {
         return Err(Fault::Period.at(Layer::Set, model));
     }
-    if cost == 0 || cost > period {
+    if !(1..=period).contains(&cost) {
         return Err(Fault::Cost.at(Layer::Set, model));
     }
     Ok(())

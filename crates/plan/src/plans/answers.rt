@@ -29,7 +29,7 @@ impl Plan {
     pub fn load_of(&self, worker: u32) -> Option<u32>
         ensures { MatchOption result (Worker self.now worker → ⊥) (λ x. Worker self.now worker × (x ≡ slice_index self.now.loads (worker - 1))) }
     {
-        if worker < 1 || worker > self.set.sizes.workers {
+        if !(1..=self.set.sizes.workers).contains(&worker) {
             return None;
         }
         Some(self.loads[worker as usize - 1])

@@ -8,7 +8,7 @@ impl Set {
     pub fn slot(&self, model: u32) -> Option<usize>
         ensures { OfModel self.now model result (λ i. i ≡ model - 1) }
     {
-        if model < 1 || model > self.sizes.models {
+        if !(1..=self.sizes.models).contains(&model) {
             return None;
         }
         Some(model as usize - 1)

@@ -10,16 +10,16 @@ impl Sizes {
     pub fn new(models: u64, workers: u32, group_size: u32, grain: u32) -> Result<Sizes, Refusal>
         ensures { Answers (about_sizes models workers group_size grain) result (λ s. (s.models ≡ models) × (s.workers ≡ workers) × (s.group_size ≡ group_size) × (s.grain ≡ grain)) }
     {
-        if models < 1 || models > MODELS as u64 {
+        if !(1..=MODELS as u64).contains(&models) {
             return Err(outside(SizeKind::Models));
         }
-        if workers < 1 || workers > WORKERS as u32 {
+        if !(1..=WORKERS as u32).contains(&workers) {
             return Err(outside(SizeKind::Workers));
         }
-        if group_size < 1 || group_size > workers {
+        if !(1..=workers).contains(&group_size) {
             return Err(outside(SizeKind::GroupSize));
         }
-        if grain < 1 || grain > GRAIN {
+        if !(1..=GRAIN).contains(&grain) {
             return Err(outside(SizeKind::Grain));
         }
         Ok(Sizes {
