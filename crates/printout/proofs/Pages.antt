@@ -1,7 +1,7 @@
 -- One text after another on a page.
-use Rattle.std.proofs.Common.{◌≡◌, ℕ, ◌+◌, ◌<◌, ◌≤◌, List, [], ◌++◌, length, get_or, take, drop, sym, refl, ap, ◌∙◌, subst, arith}
+use Rattle.std.proofs.Common.{◌≡◌, ℕ, ◌+◌, ◌<◌, ◌≤◌, List, [], ◌++◌, length, get_or, take, drop, sym, ap, ◌∙◌, subst, arith}
 use Rattle.std.specs.List.{flat_map}
-use Rattle.std.proofs.lemmas.List.{append_assoc, length-append, length-take-le, length-drop, take_at, take-append-drop, drop_at, drop-drop}
+use Rattle.std.proofs.lemmas.List.{append_assoc, length-append, length-take-le, length-drop, take_at, drop_at, drop-drop}
 use Rattle.std.proofs.lemmas.List.Folds.{length-flat_map-take}
 use Rattle.printout.specs.declared.page.Page.{Page}
 use Rattle.printout.specs.Pages.{memory, Appends}
@@ -33,14 +33,6 @@ room_left p q s k h fits =
     let same = same_room p q s h in
     let longer : q.len ≡ p.len + length s = h.longer in
     omega arith
-
-pub appends_none : (p : Page) → p.len ≤ length (memory p) → Appends p [] p
-appends_none p fits = record {
-  fits = omega arith;
-  longer = omega arith;
-  after = sym (take-append-drop p.len (memory p)) ∙ (let e : p.len ≡ p.len + 0 = omega arith in λ k. take p.len (memory p) ++ drop (e k) (memory p));
-  lent = refl;
-}
 
 pub appends_same : (p q : Page) (s t : List ℕ) → s ≡ t → Appends p s q → Appends p t q
 appends_same p q s t e h = subst (λ (text : List ℕ). Appends p text q) e h
