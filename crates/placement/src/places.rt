@@ -36,6 +36,7 @@ fn seat_all(weighed: &Weighed<'_>) -> Result<[Pieces; MODELS], Refusal>
     requires { room_for_light weighed.now.set.now ≡ true }
     ensures { Answers (first_below (about_light weighed.now.set.now) (models_of weighed.now.set.now)) result (Seated weighed.now.set.now (models_of weighed.now.set.now)) }
 {
+    // a slot without a model: no call hands one out, so an `Option` would be unwrapped wherever a slot is read
     let mut pieces = [Pieces::Whole { worker: 0, size: 0 }; MODELS];
     fill_seats(weighed, &mut pieces[..weighed.set.sizes.models as usize])?;
     Ok(pieces)

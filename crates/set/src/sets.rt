@@ -5,6 +5,7 @@ use crate::models::Model;
 use crate::sizes::{MODELS, Sizes};
 
 /// A set that is within all limits. Slots behind the last model are 0, so sets with the same sizes and models are equal.
+/// The table has room for the most models, since nothing allocates.
 #[derive(Clone, Copy, Debug, PartialEq, Eq, Hash)]
 pub struct Set {
     pub sizes: Sizes,
