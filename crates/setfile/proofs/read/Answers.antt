@@ -1,17 +1,10 @@
 use Rattle.std.proofs.Common.{Some, sym, ap, ◌+◌, ◌*◌, ◌∙◌, arith}
-use Rattle.std.proofs.lemmas.Result.{err_from_is_err_and}
 use Rattle.refusal.specs.Refusals.{told}
 use Rattle.setfile.proofs.Files.{reads_back, one_file}
-use Rattle.setfile.proofs.Headers.{heads_read, bad_sizes, bad_short, bad_long}
+use Rattle.setfile.proofs.Headers.{heads_read, bad_short, bad_long}
 use Rattle.setfile.proofs.Makings.{reads_figures}
 use Rattle.setfile.proofs.Rows.{words_read}
 use Rattle.setfile.proofs.read.Goals as goal
-
-pub returns-in_err-sizes : goal.returns-in_err-sizes
-returns-in_err-sizes c =
-    let p = err_from_is_err_and c.from_residual.result c.from_residual.ensures.1 in
-    let h = bad_sizes c.args.bytes.now c.if-bytes-lt16.false c.words.result c.words.ensures _ c.in_err-sizes.ensures in
-    rw (p.1, p.2) record { reads = h; back = reads_back c.args.bytes.now _ h; one = one_file c.args.bytes.now _ h }
 
 pub returns-then-bytes-size : goal.returns-then-bytes-size
 returns-then-bytes-size c =

@@ -1,7 +1,7 @@
 use Rattle.std.proofs.Common.{◌≡◌, ℕ, ◌<◌, List, length, get_or, arith}
 use Rattle.std.specs.List.{enumerate_from, zip}
 use Rattle.std.proofs.lemmas.Iterator.{YieldsList-from_slice, YieldsList-from_zip}
-use Rattle.std.proofs.lemmas.Iterator.Consumers.{YieldsList-from_enumerate, YieldsList-turn, YieldsList-end}
+use Rattle.std.proofs.lemmas.Iterator.Consumers.{YieldsList-from_enumerate, YieldsList-turn}
 use Rattle.std.proofs.lemmas.Slice.Zip.{length-zip, get_or-zip}
 use Rattle.std.proofs.lemmas.List.FromFn.{length-enumerate_from, get_or-enumerate_from}
 use Rattle.std.proofs.lemmas.List.{length_push}
@@ -33,11 +33,3 @@ loop-i-preserved c =
     let at = item costs periods (length c.loop-i.yielded) c.in-Some.i _ _ c.requires t in
     rw (length_push c.loop-i.yielded _)
     (first_more _ (length c.loop-i.yielded) c.loop-i.invariant (rw (at.1, at.2, at.3) at c.in_ok-check_model.ensures.0))
-
-pub returns : goal.returns
-returns c =
-    let costs = c.args.self.now.costs.now in
-    let periods = c.args.self.now.periods.now in
-    let t = YieldsList-end (YieldsList-from_enumerate (YieldsList-from_zip (YieldsList-from_slice costs cc) (YieldsList-from_slice periods cc)) cc) c.loop-i.yielded _ c.loop-i.yielded_by _ c.next.new.self c.in-None.is c.next.ensures.steps in
-    let all : length costs ≡ length c.loop-i.yielded = omega (arith, t.1, length-enumerate_from 0 (zip costs periods), length-zip costs periods) in
-    (rw all c.loop-i.invariant, tt)
