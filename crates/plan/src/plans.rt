@@ -1,4 +1,3 @@
-ghost use Rattle.std.specs.Prelude.{◌≡◌, length};
 ghost use Rattle.plan.specs.Facts.{Loaded, Shared, Grouped, OneFirst, OneSecond, Positive};
 
 use crate::pieces::Pieces;
@@ -20,7 +19,6 @@ pub struct Plan {
     ghost one_first: { OneFirst set pieces },
     ghost one_second: { OneSecond set pieces },
     ghost positive: { Positive set pieces },
-    ghost full_pieces: { length pieces ≡ 64 },
 }
 
 mod answers;

@@ -58,5 +58,4 @@ invariant_of-result c =
       one_first = one_first_piece set pieces seated.1 ok seated.0;
       one_second = one_second_piece set pieces seated.1 ok seated.0;
       positive = positive set pieces seated.1 ok seated.0;
-      full_pieces = full;
     }
