@@ -26,4 +26,5 @@ pub record Printed (bytes before after : List ℕ) (n : ℕ) : Type 0 where
 pub record PrintedTo (bytes : List ℕ) (before after : Option (List ℕ)) : Type 0 where
   pub placed : Result Plan Refusal
   pub places : PlacesFile bytes placed
+  pub only : (other : Result Plan Refusal) → PlacesFile bytes other → text_of other ≡ text_of placed
   pub grows : Appends before after (text_of placed)

@@ -34,7 +34,7 @@ pub fn print_to<W: Write>(bytes: &[u8], out: &mut W) -> io::Result<()>
     ensures { OnOk result (PrintedTo bytes.now (W.contents out.old) (W.contents out.new)) }
 {
     let mut text = [0; TEXT_BYTES];
-    let len = print_file(bytes, &mut text).unwrap();
+    let len = print_into(bytes, &mut text);
     out.write_all(&text[..len])
 }
 
