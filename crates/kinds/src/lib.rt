@@ -1,5 +1,5 @@
 //! The kinds of things that wait to be served, with their orders.
-//! Each order has its own impl: they differ in their keys alone, and a trait of keys would say these twice as well, in code and in numbers.
+//! Each order has its own impl: an impl for any trait of keys would still need the keys of each kind twice, as code and as numbers.
 #![tactic(auto)]
 
 pub mod entries;

@@ -5,7 +5,7 @@ ghost use Rattle.std.specs.Prelude.{◌≡◌, ℕ, Bool};
 ghost use Rattle.order.specs.Laws.{OrderLaws};
 
 /// An order of one kind of thing. Each thing belongs to a model and has a moment, of any width.
-/// The kind is an associated type, since an order is of one kind: a bound then names it once, as `Order<Item = T>`.
+/// An order is of one kind, so the kind is an associated type.
 pub trait Order {
     type Item;
 

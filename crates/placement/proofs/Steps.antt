@@ -1,6 +1,5 @@
 -- The steps of the code, in the words of the rules.
 use Rattle.std.proofs.Common.{◌≡◌, ℕ, suc, ◌+◌, ◌-◌, ◌<◌, ◌≤◌, Bool, true, false, cond, not, ◌||◌, eqb, List, ◌++◌, length, drop, replicate, set as put, None, sym, refl, ap, ◌∙◌, ⊎_elim, add-zero, add-one, arith}
-use Rattle.std.specs.Int.{from_bool}
 use Rattle.std.proofs.lemmas.List.{get_or-set_same, get_or-set_other, get_or_append_left, get_or-append_right, get_or-drop}
 use Rattle.std.proofs.lemmas.Bool.{cond-false, cases_eq}
 use Rattle.set.specs.declared.sets.Set.{Set}
@@ -15,14 +14,6 @@ use Rattle.placement.specs.Placing.{Seated}
 use Rattle.placement.proofs.Walks.{walked}
 use Rattle.placement.proofs.Keeps.{enough, cursor_within}
 
-one_where : (b : Bool) → cond b 1 0 ≡ from_bool b
-one_where true = refl
-one_where false = refl
-
-pub at_most_one : (b : Bool) → from_bool b ≤ 1
-at_most_one true = omega arith
-at_most_one false = omega arith
-
 -- what is known of the weight of model i + 1, for the slot i that it stands in
 pub slot_weight : (set : Set) (i weight : ℕ) → weight ≡ weight_of set (i + 1 - 1) → weight ≡ weight_of set i
 slot_weight set i weight e = let slot : i + 1 - 1 ≡ i = omega arith in e ∙ ap (weight_of set) slot
@@ -35,8 +26,8 @@ module _ (set : Set) (i weight : ℕ) (r : Bool) (weighs : weight ≡ weight_of 
   heavies_same e = rw (add-one i) (ap (λ n. heavies set i + n) (cond-false (heavy set i) 1 0 (heavy_is false e)) ∙ add-zero (heavies set i))
 
   -- one model more
-  pub heavies_next : (next : ℕ) → next ≡ i + 1 → heavies set next ≡ heavies set i + from_bool r
-  heavies_next next e = rw (e, add-one i) (ap (λ b. heavies set i + cond b 1 0) (heavy_is r refl) ∙ ap (λ n. heavies set i + n) (one_where r))
+  pub heavies_next : (next : ℕ) → next ≡ i + 1 → (b : Bool) → r ≡ b → heavies set next ≡ heavies set i + cond b 1 0
+  heavies_next next e b is = rw (e, add-one i) (ap (λ x. heavies set i + cond x 1 0) (heavy_is b is))
 
   -- a light model, tried at s
   module _ (is-not : r ≡ false) (s : Cursor) (here : s ≡ cursor set i) (alone : ℕ) (all : alone ≡ alone_of set) where

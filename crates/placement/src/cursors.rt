@@ -2,7 +2,7 @@ ghost use Rattle.std.specs.Prelude.{◌≡◌, ◌+◌, ◌<◌, ◌≤◌, not,
 ghost use Rattle.refusal.specs.Refusals.{Answers, check};
 ghost use Rattle.placement.specs.Rules.{fits, seated, moved, no_room};
 
-use crate::weighed::Weighed;
+use crate::counted::Counted;
 use plan::pieces::Pieces;
 use refusal::{Fault, Layer, Refusal};
 
@@ -17,17 +17,17 @@ impl Cursor {
     /// Where a light model goes, or a refusal where it does not fit on the last worker.
     pub(crate) fn seat(
         self,
-        weighed: &Weighed<'_>,
+        counted: &Counted<'_>,
         model: u64,
         weight: u32,
     ) -> Result<Pieces, Refusal>
-        requires floor { weighed.now.alone < self.worker }
-        requires last { self.worker ≤ weighed.now.set.now.sizes.workers }
-        requires room { self.load ≤ weighed.now.set.now.sizes.grain }
-        requires light { weight ≤ weighed.now.set.now.sizes.grain }
-        ensures { Answers (check (fits weighed.now.set.now.sizes.grain self weight || not (self.worker == weighed.now.set.now.sizes.workers)) (no_room model) None) result (λ x. x ≡ seated weighed.now.alone weighed.now.set.now.sizes.group_size weighed.now.set.now.sizes.grain self weight) }
+        requires floor { counted.now.alone < self.worker }
+        requires last { self.worker ≤ counted.now.set.now.sizes.workers }
+        requires room { self.load ≤ counted.now.set.now.sizes.grain }
+        requires light { weight ≤ counted.now.set.now.sizes.grain }
+        ensures { let sizes = counted.now.set.now.sizes in Answers (check (fits sizes.grain self weight || not (self.worker == sizes.workers)) (no_room model) None) result (λ x. x ≡ seated counted.now.alone sizes.group_size sizes.grain self weight) }
     {
-        let sizes = weighed.set.sizes;
+        let sizes = counted.set.sizes;
         let worker = self.worker;
         let wanted = self.load + weight;
         if wanted <= sizes.grain {
@@ -39,7 +39,7 @@ impl Cursor {
         if worker == sizes.workers {
             return Err(Fault::Full.at(Layer::Placement, model));
         }
-        if (worker - weighed.alone) % sizes.group_size == 0 || self.load == sizes.grain {
+        if (worker - counted.alone) % sizes.group_size == 0 || self.load == sizes.grain {
             return Ok(Pieces::Whole {
                 worker: worker + 1,
                 size: weight,

@@ -2,11 +2,11 @@ ghost use Rattle.std.specs.Prelude.{◌≡◌, ℕ, ◌+◌, ◌^◌, ◌<◌, �
 ghost use Rattle.refusal.specs.Refusals.{Answers, first_below};
 ghost use Rattle.set.specs.Sets.{models_of};
 ghost use Rattle.plan.specs.Shares.{worker_of, last_of, on_worker, pieces_at, carried};
-ghost use Rattle.placement.specs.Rules.{placed, room_for_light, about_light};
+ghost use Rattle.placement.specs.Rules.{placed, about_light};
 ghost use Rattle.placement.specs.Placing.{Places, Seated, Modest};
 
+use crate::counted::Counted;
 use crate::seating::Walk;
-use crate::weighed::Weighed;
 use plan::pieces::Pieces;
 use plan::plans::Plan;
 use refusal::Refusal;
@@ -19,38 +19,35 @@ pub fn place(set: &Set) -> Result<Plan, Refusal>
     ensures places { Places set.now result }
     ensures modest { Modest set.now → is_ok result ≡ true }
 {
-    let weighed = Weighed::new(set);
-    weighed.check_room()?;
-    let pieces = seat_all(&weighed)?;
+    let counted = Counted::new(set)?;
+    let pieces = seat_all(&counted)?;
     let loads = loads_of(&pieces[..set.sizes.models as usize]);
     Ok(Plan {
         set: *set,
-        alone: weighed.alone,
+        alone: counted.alone,
         pieces,
         loads,
     })
 }
 
 /// Where each model goes, or a refusal for the first light one that finds no room.
-fn seat_all(weighed: &Weighed<'_>) -> Result<[Pieces; MODELS], Refusal>
-    requires { room_for_light weighed.now.set.now ≡ true }
-    ensures { Answers (first_below (about_light weighed.now.set.now) (models_of weighed.now.set.now)) result (Seated weighed.now.set.now (models_of weighed.now.set.now)) }
+fn seat_all(counted: &Counted<'_>) -> Result<[Pieces; MODELS], Refusal>
+    ensures { Answers (first_below (about_light counted.now.set.now) (models_of counted.now.set.now)) result (Seated counted.now.set.now (models_of counted.now.set.now)) }
 {
     // a slot without a model: no call hands one out, so an `Option` would be unwrapped wherever a slot is read
     let mut pieces = [Pieces::Whole { worker: 0, size: 0 }; MODELS];
-    fill_seats(weighed, &mut pieces[..weighed.set.sizes.models as usize])?;
+    fill_seats(counted, &mut pieces[..counted.set.sizes.models as usize])?;
     Ok(pieces)
 }
 
 /// Writes where each model goes, until the first one that finds no room.
-fn fill_seats(weighed: &Weighed<'_>, seats: &mut [Pieces]) -> Result<(), Refusal>
-    requires all { length seats.old ≡ models_of weighed.now.set.now }
-    requires room { room_for_light weighed.now.set.now ≡ true }
-    ensures { Answers (first_below (about_light weighed.now.set.now) (models_of weighed.now.set.now)) result (λ _. (i : ℕ) → i < models_of weighed.now.set.now → pieces_at seats.new i ≡ placed weighed.now.set.now i) }
+fn fill_seats(counted: &Counted<'_>, seats: &mut [Pieces]) -> Result<(), Refusal>
+    requires { length seats.old ≡ models_of counted.now.set.now }
+    ensures { Answers (first_below (about_light counted.now.set.now) (models_of counted.now.set.now)) result (λ _. (i : ℕ) → i < models_of counted.now.set.now → pieces_at seats.new i ≡ placed counted.now.set.now i) }
 {
-    let mut walk = Walk::new(weighed);
+    let mut walk = Walk::new(counted);
     for (i, seat) in seats.iter_mut().enumerate() {
-        *seat = walk.seat(weighed, i)?;
+        *seat = walk.seat(counted, i)?;
     }
     Ok(())
 }

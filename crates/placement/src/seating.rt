@@ -1,10 +1,10 @@
-ghost use Rattle.std.specs.Prelude.{◌≡◌, ◌+◌, ◌<◌, true, None, OnOk};
+ghost use Rattle.std.specs.Prelude.{◌≡◌, ◌+◌, ◌<◌, None, OnOk};
 ghost use Rattle.refusal.specs.Refusals.{Answers, first_below};
 ghost use Rattle.set.specs.Sets.{models_of};
-ghost use Rattle.placement.specs.Rules.{heavies, cursor, placed, room_for_light, about_light};
+ghost use Rattle.placement.specs.Rules.{heavies, cursor, placed, about_light};
 
+use crate::counted::{Counted, is_heavy, known_weight};
 use crate::cursors::Cursor;
-use crate::weighed::{Weighed, is_heavy, known_weight};
 use plan::pieces::Pieces;
 use refusal::Refusal;
 
@@ -17,39 +17,38 @@ pub(crate) struct Walk {
 
 impl Walk {
     /// Before the first model.
-    pub(crate) fn new(weighed: &Weighed<'_>) -> Walk
+    pub(crate) fn new(counted: &Counted<'_>) -> Walk
         ensures heavies { result.heavies ≡ 0 }
-        ensures cursor { result.cursor ≡ cursor weighed.now.set.now 0 }
+        ensures cursor { result.cursor ≡ cursor counted.now.set.now 0 }
     {
         Walk {
             heavies: 0,
             cursor: Cursor {
-                worker: weighed.alone + 1,
+                worker: counted.alone + 1,
                 load: 0,
             },
         }
     }
 
-    /// Where the next model, in slot i, goes, or a refusal where it is light and finds no room.
-    pub(crate) fn seat(&mut self, weighed: &Weighed<'_>, i: usize) -> Result<Pieces, Refusal>
-        requires model { i < models_of weighed.now.set.now }
-        requires room { room_for_light weighed.now.set.now ≡ true }
-        requires heavies { self.old.heavies ≡ heavies weighed.now.set.now i }
-        requires cursor { self.old.cursor ≡ cursor weighed.now.set.now i }
-        requires before { first_below (about_light weighed.now.set.now) i ≡ None }
-        ensures answers { Answers (about_light weighed.now.set.now i) result (λ x. x ≡ placed weighed.now.set.now i) }
-        ensures heavies { OnOk result (self.new.heavies ≡ heavies weighed.now.set.now (i + 1)) }
-        ensures cursor { OnOk result (self.new.cursor ≡ cursor weighed.now.set.now (i + 1)) }
+    /// Where the next model, in slot i, goes, and on from there, or a refusal where it is light and finds no room.
+    pub(crate) fn seat(&mut self, counted: &Counted<'_>, i: usize) -> Result<Pieces, Refusal>
+        requires model { i < models_of counted.now.set.now }
+        requires heavies { self.old.heavies ≡ heavies counted.now.set.now i }
+        requires cursor { self.old.cursor ≡ cursor counted.now.set.now i }
+        requires before { first_below (about_light counted.now.set.now) i ≡ None }
+        ensures answers { Answers (about_light counted.now.set.now i) result (λ x. x ≡ placed counted.now.set.now i) }
+        ensures heavies { OnOk result (self.new.heavies ≡ heavies counted.now.set.now (i + 1)) }
+        ensures cursor { OnOk result (self.new.cursor ≡ cursor counted.now.set.now (i + 1)) }
     {
-        let weight = known_weight(weighed.set, i as u32 + 1);
-        if is_heavy(weighed.set, weight) {
+        let weight = known_weight(counted.set, i as u32 + 1);
+        if is_heavy(counted.set, weight) {
             self.heavies += 1;
             return Ok(Pieces::Whole {
                 worker: self.heavies,
                 size: weight,
             });
         }
-        let seated = self.cursor.seat(weighed, i as u64 + 1, weight)?;
+        let seated = self.cursor.seat(counted, i as u64 + 1, weight)?;
         self.cursor = self.cursor.moved(seated);
         Ok(seated)
     }

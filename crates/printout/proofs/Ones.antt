@@ -2,7 +2,7 @@
 use Rattle.std.proofs.Common.{◌≡◌, ℕ, zero, suc, ◌+◌, ◌<◌, ◌≤◌, List, [], ◌∷◌, ◌++◌, get_or, Some, Ok, Err, codes, Option, Result, sym, refl, ap, ◌∙◌, subst, arith}
 use Rattle.std.specs.List.{range_with_len, flat_map}
 use Rattle.refusal.specs.declared.Refusal.{Refusal}
-use Rattle.refusal.specs.Refusals.{Complaint, told, complaint_text}
+use Rattle.refusal.specs.Refusals.{Complaint, told}
 use Rattle.refusal.proofs.Firsts.{not_both}
 use Rattle.set.specs.declared.sets.Set.{Set}
 use Rattle.set.specs.Sets.{models_of, worker_count_of}
@@ -13,7 +13,7 @@ use Rattle.plan.specs.Shares.{pieces_at, carried}
 use Rattle.placement.specs.Placing.{Follows, Places, PlacesRead, PlacesFile}
 use Rattle.placement.proofs.Carries.{carried_same}
 use Rattle.printout.specs.Lines.{line_of}
-use Rattle.printout.specs.Texts.{pieces_text, sizes_text, load_text, loads_text, model_text, models_text, plan_text, text_of}
+use Rattle.printout.specs.Texts.{complaint_text, pieces_text, sizes_text, load_text, loads_text, model_text, models_text, plan_text, text_of}
 
 joined_same : (f g : ℕ → List ℕ) (a n : ℕ) → ((i : ℕ) → a ≤ i → i < a + n → f i ≡ g i) → flat_map f (range_with_len a n) ≡ flat_map g (range_with_len a n)
 joined_same f g a zero same = refl
@@ -62,13 +62,13 @@ one_placing : (set : Set) (r s : Result Plan Refusal) → Places set r → Place
 one_placing set (Ok p) (Ok q) fp fq = one_plan set p q fp.1 fq.1
 one_placing set (Ok p) (Err f) fp ff = absurd (not_both _ _ ff fp.0)
 one_placing set (Err e) (Ok q) fe fq = absurd (not_both _ _ fe fq.0)
-one_placing set (Err e) (Err f) fe ff = ap (λ c. complaint_text c ++ 10 ∷ []) (some_same _ (told e) (told f) fe ff)
+one_placing set (Err e) (Err f) fe ff = ap complaint_text (some_same _ (told e) (told f) fe ff)
 
 one_reading : (bytes : List ℕ) (a b : Result Set Refusal) (r s : Result Plan Refusal) → Reads bytes a → Reads bytes b → PlacesRead a r → PlacesRead b s → text_of r ≡ text_of s
 one_reading bytes (Ok x) (Ok y) r s ra rb pa pb = one_placing x r s pa (subst (λ (t : Set). Places t s) (one_set bytes y x rb.1 ra.1) pb)
 one_reading bytes (Ok x) (Err f) r s ra rb pa pb = absurd (not_both _ _ rb ra.0)
 one_reading bytes (Err e) (Ok y) r s ra rb pa pb = absurd (not_both _ _ ra rb.0)
-one_reading bytes (Err e) (Err f) r s ra rb pa pb = ap text_of pa ∙ (ap (λ c. complaint_text c ++ 10 ∷ []) (some_same _ (told e) (told f) ra rb) ∙ sym (ap text_of pb))
+one_reading bytes (Err e) (Err f) r s ra rb pa pb = ap text_of pa ∙ (ap complaint_text (some_same _ (told e) (told f) ra rb) ∙ sym (ap text_of pb))
 
 pub one_text : (bytes : List ℕ) (r s : Result Plan Refusal) → PlacesFile bytes r → PlacesFile bytes s → text_of r ≡ text_of s
 one_text bytes r s a b = one_reading bytes a.read b.read r s a.reads b.reads a.places b.places

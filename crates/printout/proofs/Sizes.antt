@@ -9,14 +9,14 @@ use Rattle.std.proofs.lemmas.Bool.{cases_Bool, cond-true, cond-false}
 use Rattle.refusal.specs.declared.Refusal.{Refusal}
 use Rattle.refusal.specs.declared.Layer.{Layer}
 use Rattle.refusal.specs.declared.Layer.TheVariants.{File, Set, Placement, Running}
-use Rattle.refusal.specs.Refusals.{number_of, word_of, refusal_text}
+use Rattle.refusal.specs.Refusals.{number_of, word_of, refusal_words}
 use Rattle.set.proofs.Weights.{weighs}
 use Rattle.plan.specs.declared.pieces.Pieces.{Pieces}
 use Rattle.plan.specs.declared.pieces.Pieces.TheVariants.{Whole, Divided}
 use Rattle.plan.specs.declared.plans.Plan.{Plan}
 use Rattle.plan.specs.Shares.{last_of, first_of, second_of, pieces_at}
 use Rattle.printout.specs.Lines.{line_of}
-use Rattle.printout.specs.Texts.{refused_text, pieces_text, sizes_text, load_text, loads_text, model_text, models_text, plan_text, text_of}
+use Rattle.printout.specs.Texts.{refusal_text, pieces_text, sizes_text, load_text, loads_text, model_text, models_text, plan_text, text_of}
 use Rattle.printout.proofs.Joins.{length_joined_le}
 use Rattle.printout.proofs.Lengths.{length_line_le}
 
@@ -42,13 +42,13 @@ word_most Running = omega arith
 append_most : (s t : List ℕ) (a b : ℕ) → length s ≤ a → length t ≤ b → length (s ++ t) ≤ a + b
 append_most s t a b h k = omega (arith, length-append s t)
 
-refusal_most : (e : Refusal) → length (refused_text e) ≤ 16384
+refusal_most : (e : Refusal) → length (refusal_text e) ≤ 16384
 refusal_most e =
     let number = decimal (number_of e.fault) in
     let word = word_of e.layer in
     let place = decimal e.place in
-    let all : length (refused_text e) ≤ 8 + 64 + 1 + 9 + 1 + 64 + 1 =
-    append_most (refusal_text e) (10 ∷ []) (8 + 64 + 1 + 9 + 1 + 64) 1
+    let all : length (refusal_text e) ≤ 8 + 64 + 1 + 9 + 1 + 64 + 1 =
+    append_most (refusal_words e) (10 ∷ []) (8 + 64 + 1 + 9 + 1 + 64) 1
     (append_most (codes "refused " ++ number ++ codes " " ++ word ++ codes " ") place (8 + 64 + 1 + 9 + 1) 64
     (append_most (codes "refused " ++ number ++ codes " " ++ word) (codes " ") (8 + 64 + 1 + 9) 1
     (append_most (codes "refused " ++ number ++ codes " ") word (8 + 64 + 1) 9

@@ -12,8 +12,8 @@ slots_enough plan =
     let some = plan.set.sizes.some_models in
     ⊎_elim
     (λ (short : length plan.pieces < n).
-        let last : n - 1 < n = omega arith in
-        let none : first_of (pieces_at plan.pieces (n - 1)) ≡ 0 = ap first_of (get_or_past plan.pieces (n - 1) nowhere (omega arith)) in
-        omega (arith, (plan.positive (n - 1) last).0, none))
+    let last : n - 1 < n = omega arith in
+    let none : first_of (pieces_at plan.pieces (n - 1)) ≡ 0 = ap first_of (get_or_past plan.pieces (n - 1) nowhere (omega arith)) in
+    omega (arith, (plan.positive (n - 1) last).0, none))
     (λ (le : n ≤ length plan.pieces). le)
     (cases_lt (length plan.pieces) n)

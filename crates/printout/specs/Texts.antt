@@ -2,16 +2,19 @@
 use Rattle.std.specs.Prelude.{ℕ, ◌+◌, List, [], ◌∷◌, ◌++◌, Ok, Err, codes, Result, slice_index}
 use Rattle.std.specs.List.{range_with_len, flat_map}
 use Rattle.refusal.specs.declared.Refusal.{Refusal}
-use Rattle.refusal.specs.Refusals.{refusal_text}
+use Rattle.refusal.specs.Refusals.{Complaint, told, complaint_words}
 use Rattle.plan.specs.declared.pieces.Pieces.{Pieces}
 use Rattle.plan.specs.declared.pieces.Pieces.TheVariants.{Whole, Divided}
 use Rattle.plan.specs.declared.plans.Plan.{Plan}
 use Rattle.plan.specs.Shares.{pieces_at}
 use Rattle.printout.specs.Lines.{line_of}
 
--- a refusal, and the end of the line
-abbrev pub refused_text : Refusal → List ℕ
-refused_text e = refusal_text e ++ 10 ∷ []
+-- refused, number, layer, place
+abbrev pub complaint_text : Complaint → List ℕ
+complaint_text c = complaint_words c ++ 10 ∷ []
+
+abbrev pub refusal_text : Refusal → List ℕ
+refusal_text e = complaint_text (told e)
 
 -- piece, model, worker, size: one line, or two for a divided model
 abbrev pub pieces_text : ℕ → Pieces → List ℕ
@@ -43,4 +46,4 @@ module _ (plan : Plan) where
 -- all that is printed of a file
 abbrev pub text_of : Result Plan Refusal → List ℕ
 text_of (Ok plan) = plan_text plan
-text_of (Err e) = refused_text e
+text_of (Err e) = refusal_text e

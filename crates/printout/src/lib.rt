@@ -1,4 +1,4 @@
-//! What is printed of a set file, as text in memory that the caller lends.
+//! What is printed of a set file, as text in memory that the caller lends, or to a writer.
 #![tactic(auto)]
 
 ghost use Rattle.std.specs.Prelude.{◌≡◌, ◌≤◌, length, MatchResult, OnOk};
@@ -9,8 +9,7 @@ use lines::text_lines;
 use page::Page;
 use placement::place_file;
 use refusal::{Fault, Layer, Lent, Refusal};
-use std::io;
-use std::io::Write;
+use std::io::{self, Write};
 
 mod lines;
 mod page;

@@ -1,16 +1,16 @@
 //! The lines of the text, one function for each part of it.
 ghost use Rattle.printout.specs.Pages.{Fits, Appends};
-ghost use Rattle.printout.specs.Texts.{refused_text, pieces_text, loads_text, models_text, plan_text, text_of};
+ghost use Rattle.printout.specs.Texts.{refusal_text, pieces_text, loads_text, models_text, plan_text, text_of};
 
 use crate::page::Page;
 use plan::pieces::Pieces;
 use plan::plans::Plan;
 use refusal::Refusal;
 
-/// The one line of a refusal.
+/// The one line of a refusal. Its `Display` would not do here: page.rt says why.
 fn refusal_line(page: &mut Page<'_>, refusal: Refusal)
-    requires { Fits page.old (refused_text refusal) }
-    ensures { Appends page.old (refused_text refusal) page.new }
+    requires { Fits page.old (refusal_text refusal) }
+    ensures { Appends page.old (refusal_text refusal) page.new }
 {
     page.put("refused ");
     page.number(refusal.fault.number());

@@ -37,11 +37,11 @@ abbrev pub told : Refusal → Complaint
 told e = record { number = number_of e.fault; layer = e.layer; place = e.place }
 
 -- how it is printed: refused, number, layer, place
-abbrev pub complaint_text : Complaint → List ℕ
-complaint_text c = codes "refused " ++ decimal c.number ++ codes " " ++ word_of c.layer ++ codes " " ++ decimal c.place
+abbrev pub complaint_words : Complaint → List ℕ
+complaint_words c = codes "refused " ++ decimal c.number ++ codes " " ++ word_of c.layer ++ codes " " ++ decimal c.place
 
-abbrev pub refusal_text : Refusal → List ℕ
-refusal_text e = complaint_text (told e)
+abbrev pub refusal_words : Refusal → List ℕ
+refusal_words e = complaint_words (told e)
 
 -- the complaint, unless the test is passed: then what comes after it
 abbrev pub check : Bool → Complaint → Option Complaint → Option Complaint

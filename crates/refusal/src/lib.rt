@@ -2,7 +2,7 @@
 #![tactic(auto)]
 
 ghost use Rattle.std.specs.Prelude.{◌≡◌, Some};
-ghost use Rattle.refusal.specs.Refusals.{number_of, word_of, place_of_lent, refusal_text};
+ghost use Rattle.refusal.specs.Refusals.{number_of, word_of, place_of_lent, refusal_words};
 
 use std::error::Error;
 use std::fmt;
@@ -104,7 +104,7 @@ pub struct Refusal {
 }
 
 impl fmt::Display for Refusal {
-    ghost output = { λ refusal. Some (refusal_text refusal) };
+    ghost output = { λ refusal. Some (refusal_words refusal) };
 
     fn fmt<W: fmt::Write>(&self, f: &mut fmt::Formatter<W>) -> fmt::Result {
         write!(

@@ -5,7 +5,7 @@ use crate::models::Model;
 use crate::sizes::{MODELS, Sizes};
 
 /// A set that is within all limits. Slots behind the last model are 0, so sets with the same sizes and models are equal.
-/// The table has room for the most models, since nothing allocates.
+/// The table has room for the most models: nothing allocates, and a set is copied as a value.
 #[derive(Clone, Copy, Debug, PartialEq, Eq, Hash)]
 pub struct Set {
     pub sizes: Sizes,

@@ -18,6 +18,18 @@ pub enum SizeKind {
     Grain = 4,
 }
 
+impl SizeKind {
+    ghost use Rattle.std.specs.Prelude.{◌≡◌};
+    ghost use Rattle.set.specs.Limits.{place_of};
+
+    /// The place at which a refusal names the size.
+    pub fn place(self) -> u64
+        ensures { result ≡ place_of self }
+    {
+        self as u64
+    }
+}
+
 /// How many models, workers, workers to a group and parts to a tick there are.
 #[derive(Clone, Copy, Debug, PartialEq, Eq, Hash)]
 pub struct Sizes {

@@ -1,6 +1,7 @@
 -- What the sizes at the head of a file leave to be at fault.
 use Rattle.std.proofs.Common.{◌≡◌, ℕ, ◌+◌, ◌*◌, ◌<◌, ◌≤◌, List, length, get_or, Some, None, ◌∙◌, arith}
 use Rattle.std.proofs.lemmas.Bool.Decides.{nat_tests}
+use Rattle.refusal.specs.Refusals.{Complaint}
 use Rattle.set.specs.Limits.{about_sizes, about_models}
 use Rattle.set.specs.declared.sizes.Sizes.{Sizes}
 use Rattle.setfile.specs.Format.{word_at, words_at}
@@ -19,6 +20,11 @@ pub record Heads (bytes : List ℕ) (sizes : Sizes) : Type 0 where
 module _ (bytes : List ℕ) (long : 16 ≤ length bytes) (ws : List ℕ) (words : (i : ℕ) → i < 4 → 4 * i + 4 ≤ length bytes → get_or ws i 0 ≡ word_at bytes (4 * i)) where
   word_is : (i : ℕ) → i < 4 → get_or ws i 0 ≡ word_at bytes (4 * i)
   word_is i h = words i h (omega arith)
+
+  -- the first fault is in the sizes
+  pub bad_sizes : (complaint : Complaint) → about_sizes (get_or ws 0 0) (get_or ws 1 0) (get_or ws 2 0) (get_or ws 3 0) ≡ Some complaint → about_file bytes ≡ Some complaint
+  bad_sizes complaint bad =
+      grind (arith, nat_tests, word_is 0 (omega arith), word_is 1 (omega arith), word_is 2 (omega arith), word_is 3 (omega arith))
 
   pub heads_read : (sizes : Sizes) → (sizes.models ≡ get_or ws 0 0) × (sizes.workers ≡ get_or ws 1 0) × (sizes.group_size ≡ get_or ws 2 0) × (sizes.grain ≡ get_or ws 3 0) → Heads bytes sizes
   heads_read sizes is = record {

@@ -14,13 +14,16 @@ use set::sets::Set;
 use set::sizes::{MODELS, Sizes};
 use std::array;
 
+/// The bytes of the four sizes at the head of a file.
+const HEADER: usize = 16;
+
 /// The set of a file. The file of a set reads as that set, and no other file does.
 pub fn read(bytes: &[u8]) -> Result<Set, Refusal>
     ensures reads { Reads bytes.now result }
     ensures back { (s : Set) → bytes.now ≡ file_of s → result ≡ Ok s }
     ensures one { (s : Set) (other : List ℕ) → result ≡ Ok s → Reads other (Ok s) → other ≡ bytes.now }
 {
-    if bytes.len() < 16 {
+    if bytes.len() < HEADER {
         return Err(Fault::Short.at(Layer::File, bytes.len() as u64));
     }
     let [models, workers, group_size, grain] = words::<4>(bytes);
@@ -33,9 +36,9 @@ pub fn read(bytes: &[u8]) -> Result<Set, Refusal>
     if bytes.len() > size {
         return Err(Fault::Long.at(Layer::File, size as u64));
     }
-    // the tables have room for the most models, since nothing allocates
-    let costs = words::<MODELS>(&bytes[16..]);
-    let periods = words::<MODELS>(&bytes[16 + 4 * count..]);
+    // the tables have room for the most models: nothing allocates
+    let costs = words::<MODELS>(&bytes[HEADER..]);
+    let periods = words::<MODELS>(&bytes[HEADER + 4 * count..]);
     let figures = Figures {
         workers: sizes.workers,
         group_size: sizes.group_size,
@@ -76,7 +79,7 @@ fn put_file(set: &Set, place: &mut [u8])
     let sizes = [models, workers, group_size, grain].map(u32::to_le_bytes);
     let costs = set.models.map(|model| model.cost).map(u32::to_le_bytes);
     let periods = set.models.map(|model| model.period).map(u32::to_le_bytes);
-    let (header, rows) = place.split_at_mut(16);
+    let (header, rows) = place.split_at_mut(HEADER);
     let (cost_row, period_row) = rows.split_at_mut(4 * count);
     header.copy_from_slice(sizes.as_flattened());
     cost_row.copy_from_slice(costs[..count].as_flattened());
@@ -88,10 +91,10 @@ fn file_size(models: usize) -> usize
     requires { models ≤ 64 }
     ensures { result ≡ size_for models }
 {
-    16 + 8 * models
+    HEADER + 8 * models
 }
 
-/// The first N words of the bytes, and 0 for those behind the last whole one.
+/// The first N words of the bytes, as far as there are so many.
 fn words<const N: usize>(bytes: &[u8]) -> [u32; N]
     ensures { (i : ℕ) → i < N → 4 * i + 4 ≤ length bytes.now → slice_index result i ≡ word_at bytes.now (4 * i) }
 {

@@ -22,7 +22,7 @@ fn written_and_read_back(rt: HostRuntime) -> Result<(), Fail> {
         244, 1, 0, 0, 7,
     ];
     assert_eq!(rt; buffer, file);
-    let set = setfile::read(&buffer[0..32])?;
+    let set = setfile::read(&buffer[..32])?;
     assert_eq!(rt; set.weight(1), Some(200));
     assert_eq!(rt; set.weight(2), Some(200));
     Ok(())

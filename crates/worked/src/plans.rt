@@ -5,21 +5,22 @@ use plan::pieces::Pieces;
 use plan::plans::Plan;
 use refusal::{Fault, Layer, Refusal};
 use set::figures::Figures;
+use set::sets::Set;
+use set::sizes::MODELS;
 use std::test::Fail;
 
 /// The plan of at most 64 weights.
 fn placed(workers: u32, group_size: u32, grain: u32, weights: &[u32]) -> Result<Plan, Refusal> {
-    let periods = [grain; 64];
-    let count = weights.len().min(64);
+    let periods = [grain; MODELS];
+    let count = weights.len().min(MODELS);
     let figures = Figures {
         workers,
         group_size,
         grain,
         costs: weights,
-        periods: &periods[0..count],
+        periods: &periods[..count],
     };
-    let set = figures.check()?;
-    place(&set)
+    place(&Set::try_from(&figures)?)
 }
 
 #[test]

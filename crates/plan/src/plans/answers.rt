@@ -46,8 +46,7 @@ impl Plan {
     pub fn group_count(&self) -> u32
         ensures { Counts (group_in self.now) (worker_count_of self.now.set) result }
     {
-        let groups = self.grouping();
-        groups.count()
+        self.grouping().count()
     }
 
     /// The first and the last worker of a group.

@@ -1,6 +1,6 @@
-ghost use Rattle.std.specs.Prelude.{◌≡◌};
-ghost use Rattle.refusal.specs.Refusals.{Answers, told};
-ghost use Rattle.set.specs.Limits.{about_sizes, bad_size};
+ghost use Rattle.std.specs.Prelude.{◌≡◌, None};
+ghost use Rattle.refusal.specs.Refusals.{Answers, check, told};
+ghost use Rattle.set.specs.Limits.{about_sizes, bad_size, within};
 
 use super::{GRAIN, MODELS, SizeKind, Sizes, WORKERS};
 use refusal::{Fault, Layer, Refusal};
@@ -10,18 +10,10 @@ impl Sizes {
     pub fn new(models: u64, workers: u32, group_size: u32, grain: u32) -> Result<Sizes, Refusal>
         ensures { Answers (about_sizes models workers group_size grain) result (λ s. (s.models ≡ models) × (s.workers ≡ workers) × (s.group_size ≡ group_size) × (s.grain ≡ grain)) }
     {
-        if !(1..=MODELS as u64).contains(&models) {
-            return Err(outside(SizeKind::Models));
-        }
-        if !(1..=WORKERS as u32).contains(&workers) {
-            return Err(outside(SizeKind::Workers));
-        }
-        if !(1..=workers).contains(&group_size) {
-            return Err(outside(SizeKind::GroupSize));
-        }
-        if !(1..=GRAIN).contains(&grain) {
-            return Err(outside(SizeKind::Grain));
-        }
+        check_size(SizeKind::Models, models, MODELS as u64)?;
+        check_size(SizeKind::Workers, workers as u64, WORKERS as u64)?;
+        check_size(SizeKind::GroupSize, group_size as u64, workers as u64)?;
+        check_size(SizeKind::Grain, grain as u64, GRAIN as u64)?;
         Ok(Sizes {
             models: models as u32,
             workers,
@@ -31,9 +23,19 @@ impl Sizes {
     }
 }
 
+/// Refuses a size that is not from 1 to the most.
+fn check_size(kind: SizeKind, size: u64, most: u64) -> Result<(), Refusal>
+    ensures { Answers (check (within 1 most size) (bad_size kind) None) result (λ _. Unit {0}) }
+{
+    if !(1..=most).contains(&size) {
+        return Err(outside(kind));
+    }
+    Ok(())
+}
+
 /// This size is outside its range.
 pub(crate) fn outside(kind: SizeKind) -> Refusal
     ensures { told result ≡ bad_size kind }
 {
-    Fault::Size.at(Layer::Set, kind as u64)
+    Fault::Size.at(Layer::Set, kind.place())
 }

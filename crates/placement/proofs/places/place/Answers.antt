@@ -1,29 +1,29 @@
-use Rattle.std.proofs.Common.{◌≡◌, ◌+◌, ◌<◌, ◌≤◌, ◌∙◌, true, length, Some, None, arith}
+use Rattle.std.proofs.Common.{◌≡◌, ◌+◌, ◌<◌, ◌≤◌, ◌∙◌, true, length, Some, arith}
 use Rattle.std.proofs.lemmas.List.{length-take-le}
 use Rattle.std.proofs.lemmas.Result.{err_from_is_err_and}
-use Rattle.refusal.specs.Refusals.{told, check}
-use Rattle.refusal.proofs.Firsts.{passed, failed, not_both}
+use Rattle.refusal.specs.Refusals.{told}
+use Rattle.refusal.proofs.Firsts.{failed, not_both}
 use Rattle.set.specs.Sets.{models_of}
-use Rattle.placement.specs.Rules.{about_placing, room_for_light, too_heavy, alone_of}
+use Rattle.placement.specs.Rules.{about_placing, room_for_light}
 use Rattle.placement.proofs.Bounds.{never_refused}
 use Rattle.placement.proofs.Carries.{pieces_in_front, carried_in_front}
 use Rattle.placement.proofs.Facts.{within, room, loaded, shared, grouped, one_first_piece, one_second_piece, positive}
 use Rattle.placement.proofs.places.place.Goals as goal
 
-pub returns-in_err-check_room : goal.returns-in_err-check_room
-returns-in_err-check_room c =
+pub returns-in_err-counted : goal.returns-in_err-counted
+returns-in_err-counted c =
     let p = err_from_is_err_and c.from_residual.result c.from_residual.ensures.1 in
     let set = c.args.set.now in
-    let said : check (room_for_light set) (too_heavy (alone_of set)) None ≡ Some (told c.in_err-check_room.field-0.0) = rw c.new-weighed.ensures at c.in_err-check_room.ensures in
-    let fault : about_placing set ≡ Some (told c.in_err-check_room.field-0.0) = failed _ _ _ _ said in
+    let fault : about_placing set ≡ Some (told c.in_err-counted.field-0.0) = failed _ _ _ _ c.in_err-counted.ensures in
     rw (p.1, p.2) record { places = fault; modest = λ m. absurd (not_both _ _ fault (never_refused set m)) }
 
 pub returns-in_err-pieces : goal.returns-in_err-pieces
 returns-in_err-pieces c =
     let p = err_from_is_err_and c.from_residual-in_err-pieces.result c.from_residual-in_err-pieces.ensures.1 in
     let set = c.args.set.now in
-    let ok : room_for_light set ≡ true = (passed _ _ _ (rw c.new-weighed.ensures at c.in_ok-check_room.ensures.0)).0 in
-    let fault : about_placing set ≡ Some (told c.in_err-pieces.field-0.0) = rw ok (rw c.new-weighed.ensures at c.in_err-pieces.ensures) in
+    let is = c.in_ok-counted.ensures.1 in
+    let ok : room_for_light set ≡ true = rw is at c.in_ok-counted.counted.roomy in
+    let fault : about_placing set ≡ Some (told c.in_err-pieces.field-0.0) = rw ok (rw is at c.in_err-pieces.ensures) in
     rw (p.1, p.2) record { places = fault; modest = λ m. absurd (not_both _ _ fault (never_refused set m)) }
 
 pub loads_of-loads-requires : goal.loads_of-loads-requires
@@ -31,9 +31,10 @@ loads_of-loads-requires c =
     let set = c.args.set.now in
     let n = models_of set in
     let pieces = c.in_ok-pieces.pieces in
+    let is = c.in_ok-counted.ensures.1 in
+    let ok : room_for_light set ≡ true = rw is at c.in_ok-counted.counted.roomy in
+    let seated = rw is at c.in_ok-pieces.ensures in
     let full : length pieces ≡ 64 = omega arith in
-    let ok : room_for_light set ≡ true = (passed _ _ _ (rw c.new-weighed.ensures at c.in_ok-check_room.ensures.0)).0 in
-    let seated = rw c.new-weighed.ensures at c.in_ok-pieces.ensures in
     let front : n ≤ length pieces = omega (arith, set.sizes.few_models) in
     let level = length-take-le n pieces front in
     record {
@@ -47,14 +48,16 @@ invariant_of-result c =
     let set = c.args.set.now in
     let n = models_of set in
     let pieces = c.in_ok-pieces.pieces in
+    let counted = c.in_ok-counted.counted in
+    let is = c.in_ok-counted.ensures.1 in
+    let ok : room_for_light set ≡ true = rw is at counted.roomy in
+    let seated = rw is at c.in_ok-pieces.ensures in
     let full : length pieces ≡ 64 = omega arith in
-    let ok : room_for_light set ≡ true = (passed _ _ _ (rw c.new-weighed.ensures at c.in_ok-check_room.ensures.0)).0 in
-    let seated = rw c.new-weighed.ensures at c.in_ok-pieces.ensures in
     let front : n ≤ length pieces = omega (arith, set.sizes.few_models) in
     record {
       loaded = loaded set pieces seated.1 ok seated.0 c.loads_of-loads.result (λ p h. c.loads_of-loads.ensures p h ∙ carried_in_front pieces n (p + 1) front);
       shared = shared set pieces seated.1 ok seated.0;
-      grouped = grouped set pieces seated.1 ok seated.0 c.new-weighed.result.alone (rw c.new-weighed.ensures at c.new-weighed.result.counted);
+      grouped = grouped set pieces seated.1 ok seated.0 counted.alone (rw is at counted.heavy);
       one_first = one_first_piece set pieces seated.1 ok seated.0;
       one_second = one_second_piece set pieces seated.1 ok seated.0;
       positive = positive set pieces seated.1 ok seated.0;

@@ -5,5 +5,5 @@ use Rattle.placement.proofs.seating.Walk.new.Goals as goal
 
 pub overflow_add-result : goal.overflow_add-result
 overflow_add-result c =
-    let weighed = c.args.weighed.now in
-    omega (arith, weighed.counted, heavies_le weighed.set.now (models_of weighed.set.now), weighed.set.now.sizes.few_models)
+    let counted = c.args.counted.now in
+    omega (arith, counted.heavy, heavies_le counted.set.now (models_of counted.set.now), counted.set.now.sizes.few_models)

@@ -4,4 +4,4 @@ use Rattle.plan.proofs.plans.Plan.group_count.Goals as goal
 
 pub returns : goal.returns
 returns c =
-    subst (λ groups. Counts (group_of groups.alone groups.sizes.group_size) groups.sizes.workers c.count.result) c.grouping-groups.ensures c.count.ensures
+    subst (λ groups. Counts (group_of groups.alone groups.sizes.group_size) groups.sizes.workers c.count.result) c.grouping.ensures c.count.ensures

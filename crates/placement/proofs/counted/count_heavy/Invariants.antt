@@ -1,6 +1,6 @@
 use Rattle.std.proofs.Common.{◌≡◌, ◌-◌, ◌<◌}
 use Rattle.placement.specs.Rules.{heavies}
-use Rattle.placement.proofs.weighed.count_heavy.Given as goal
+use Rattle.placement.proofs.counted.count_heavy.Given as goal
 
 -- those before this model are counted
 abbrev pub invariant-loop-model : goal.invariant-loop-model

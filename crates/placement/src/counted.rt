@@ -1,4 +1,4 @@
-ghost use Rattle.std.specs.Prelude.{◌≡◌, ◌-◌, ◌≤◌, None};
+ghost use Rattle.std.specs.Prelude.{◌≡◌, ◌-◌, ◌≤◌, true, None};
 ghost use Rattle.refusal.specs.Refusals.{Answers, check};
 ghost use Rattle.set.specs.Sets.{grain_of, HasModel, Weighs};
 ghost use Rattle.placement.specs.Rules.{is_heavy_weight, alone_of, room_for_light, too_heavy};
@@ -6,32 +6,24 @@ ghost use Rattle.placement.specs.Rules.{is_heavy_weight, alone_of, room_for_ligh
 use refusal::{Fault, Layer, Refusal};
 use set::sets::Set;
 
-/// A set whose heavy models are counted: workers 1 to `alone` are groups of one, one for each of them.
+/// A set whose heavy models are counted, and leave workers enough. Workers 1 to `alone` are groups of one, each for a heavy model.
 #[derive(Clone, Copy)]
-pub(crate) struct Weighed<'a> {
+pub(crate) struct Counted<'a> {
     pub(crate) set: &'a Set,
     pub(crate) alone: u32,
-    ghost counted: { alone ≡ alone_of set.now },
+    ghost heavy: { alone ≡ alone_of set.now },
+    ghost roomy: { room_for_light set.now ≡ true },
 }
 
-impl<'a> Weighed<'a> {
-    pub(crate) fn new(set: &'a Set) -> Weighed<'a>
-        ensures { result.set.now ≡ set.now }
+impl<'a> Counted<'a> {
+    /// Counts, and refuses heavy models that are more than the workers, or that leave no worker for a light one.
+    pub(crate) fn new(set: &'a Set) -> Result<Counted<'a>, Refusal>
+        ensures { Answers (check (room_for_light set.now) (too_heavy (alone_of set.now)) None) result (λ counted. counted.set.now ≡ set.now) }
     {
-        Weighed {
-            set,
-            alone: count_heavy(set),
-        }
-    }
-
-    /// Refuses heavy models that are more than the workers, or that leave no worker for a light one.
-    pub(crate) fn check_room(&self) -> Result<(), Refusal>
-        ensures { Answers (check (room_for_light self.now.set.now) (too_heavy (alone_of self.now.set.now)) None) result (λ _. Unit {0}) }
-    {
-        let alone = self.alone;
-        let workers = self.set.sizes.workers;
-        if alone < workers || (alone == workers && alone == self.set.sizes.models) {
-            return Ok(());
+        let alone = count_heavy(set);
+        let workers = set.sizes.workers;
+        if alone < workers || (alone == workers && alone == set.sizes.models) {
+            return Ok(Counted { set, alone });
         }
         Err(Fault::Heavy.at(Layer::Placement, alone as u64))
     }
@@ -44,7 +36,9 @@ fn count_heavy(set: &Set) -> u32
     let mut count = 0;
     for model in 1..=set.sizes.models {
         let weight = known_weight(set, model);
-        count += u32::from(is_heavy(set, weight));
+        if is_heavy(set, weight) {
+            count += 1;
+        }
     }
     count
 }
