@@ -1,8 +1,8 @@
 -- The groups of workers, by division.
-use Rattle.std.proofs.Common.{◌≡◌, ℕ, ◌+◌, ◌-◌, ◌*◌, ◌/◌, ◌%◌, ◌<◌, ◌≤◌, min, leb, ap, ⊎_elim, mul-le-mul_right, mod-lt, add-mul, pos_of_ne-zero, one-mul, div-add-mod', le-div_iff_mul-le, div-mul-le_self, arith}
+use Rattle.std.proofs.Common.{◌≡◌, ℕ, ◌+◌, ◌-◌, ◌*◌, ◌/◌, ◌%◌, ◌<◌, ◌≤◌, min, leb, ◌⊎◌, ap, ⊎_elim, mul-le-mul_right, mod-lt, add-mul, pos_of_ne-zero, one-mul, div-add-mod', le-div_iff_mul-le, div-mul-le_self, arith}
 use Rattle.std.proofs.Math.Nat.{div-eq_of_lt-le, lt-div-mul-add}
 use Rattle.std.proofs.lemmas.Bool.{cond-true, cond-false, le-leb, lt-leb, cases_lt}
-use Rattle.plan.specs.Groups.{group_of, Group, Counts}
+use Rattle.plan.specs.Groups.{group_of, Group, NoGroup, Counts}
 
 module _ (alone k : ℕ) (some : 1 ≤ k) where
   group_low : (p : ℕ) → p ≤ alone → group_of alone k p ≡ p
@@ -33,6 +33,10 @@ module _ (alone k : ℕ) (some : 1 ≤ k) where
   low_within : (m g : ℕ) → g ≤ alone → g ≤ group_of alone k m → g ≤ m
   low_within m g low top =
       ⊎_elim (λ (lt : alone < m). omega arith) (λ (le : m ≤ alone). omega (arith, group_low m le)) (cases_lt alone m)
+
+  -- the groups are numbered from 1 up to that of the last worker
+  pub no_group : (m g : ℕ) → (g < 1) ⊎ (group_of alone k m < g) → NoGroup (group_of alone k) m g
+  no_group m g out p some-p in-m e = ⊎_elim (λ (low : g < 1). omega (arith, group_some p some-p)) (λ (high : group_of alone k m < g). omega (arith, group_rises p m in-m)) out
 
   -- behind the groups of one, group g begins with this worker
   abbrev first_of : ℕ → ℕ
