@@ -5,7 +5,8 @@ use printout::print_to;
 use std::alloc::{AllocError, Global};
 use std::io::{BufRead, BufReader};
 
-/// The value of a hexadecimal digit; any other byte, a capital too, counts as 0, as the library's digits do not.
+/// The value of a hexadecimal digit; any other byte, a capital too, counts as 0.
+/// The library's digits read capitals and refuse rubbish, and this program reads as it did.
 fn digit(byte: u8) -> u8 {
     match byte {
         b'0'..=b'9' => byte - b'0',

@@ -33,14 +33,9 @@ impl<'a> Counted<'a> {
 fn count_heavy(set: &Set) -> u32
     ensures { result ≡ alone_of set.now }
 {
-    let mut count = 0;
-    for model in 1..=set.sizes.models {
-        let weight = known_weight(set, model);
-        if is_heavy(set, weight) {
-            count += 1;
-        }
-    }
-    count
+    (0..set.sizes.models)
+        .filter(|&i| is_heavy(set, known_weight(set, i + 1)))
+        .count() as u32
 }
 
 /// The weight of a model of the set.

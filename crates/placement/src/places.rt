@@ -34,7 +34,7 @@ pub fn place(set: &Set) -> Result<Plan, Refusal>
 fn seat_all(counted: &Counted<'_>) -> Result<[Pieces; MODELS], Refusal>
     ensures { Answers (first_below (about_light counted.now.set.now) (models_of counted.now.set.now)) result (Seated counted.now.set.now (models_of counted.now.set.now)) }
 {
-    // a slot without a model: no call hands one out, so an `Option` would be unwrapped wherever a slot is read
+    // a slot without a model: no call answers one, so an `Option` would be unwrapped wherever a slot is read
     let mut pieces = [Pieces::Whole { worker: 0, size: 0 }; MODELS];
     fill_seats(counted, &mut pieces[..counted.set.sizes.models as usize])?;
     Ok(pieces)

@@ -7,6 +7,7 @@ use set::sizes::{MODELS, WORKERS};
 /// Which worker runs which model: the set, the pieces of each model, and the load of each worker.
 /// Workers 1 to `alone` are groups of one; the others stand in groups of the set's group size.
 /// The tables have room for the most models and workers: nothing allocates, and a plan is copied as a value.
+/// It is not compared: the slots behind the last model are no part of what it says.
 #[derive(Clone, Copy, Debug)]
 pub struct Plan {
     pub set: Set,

@@ -32,6 +32,7 @@ pub fn print_file(bytes: &[u8], text: &mut [u8]) -> Result<usize, Refusal>
 pub fn print_to<W: Write>(bytes: &[u8], out: &mut W) -> io::Result<()>
     ensures { OnOk result (PrintedTo bytes.now (W.contents out.old) (W.contents out.new)) }
 {
+    // nothing allocates: there is room for the longest text, and its length stands beside it
     let mut text = [0; TEXT_BYTES];
     let len = print_into(bytes, &mut text);
     out.write_all(&text[..len])

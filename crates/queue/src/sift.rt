@@ -14,7 +14,7 @@ impl<'a, T: Copy> Queue<'a, T> {
         ensures ordered { Heaped (O.precedes order.now) (slots_of self.old) (count_of self.old) → Heaped (O.precedes order.now) (slots_of self.new) (count_of self.old + 1) }
     {
         let mut hole = self.count;
-        // The tree lies in slots, so the way up goes by their numbers.
+        // The tree lies in slots, so the way up goes by their numbers: no iterator over slots is plainer.
         while hole > 0 {
             let up = (hole - 1) / 2;
             let over = self.slots[up];
@@ -34,7 +34,7 @@ impl<'a, T: Copy> Queue<'a, T> {
         ensures ordered { Heaped (O.precedes order.now) (slots_of self.old) left → Heaped (O.precedes order.now) (slots_of self.new) left }
     {
         let mut hole = 0;
-        // The tree lies in slots, so the way down goes by their numbers.
+        // The tree lies in slots, so the way down goes by their numbers: no iterator over slots is plainer.
         while hole < left / 2 {
             let child = self.first_child(order, hole, left);
             let under = self.slots[child];

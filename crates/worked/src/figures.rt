@@ -18,6 +18,7 @@ fn checked<'a>(costs: &'a [u32], periods: &'a [u32]) -> Result<Set, Refusal> {
 
 #[test]
 fn numbers_of_costs_and_periods(rt: HostRuntime) {
+    // the place as callers see it
     let models = Some(Fault::Size.at(Layer::Set, 1));
     assert_eq!(rt; checked(&[1, 1], &[10]).err(), models);
     assert_eq!(rt; checked(&[], &[10]).err(), models);

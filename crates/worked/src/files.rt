@@ -37,6 +37,7 @@ fn memory_that_is_too_small(rt: HostRuntime) {
     );
     assert_eq!(rt; buffer, [7; 31]);
     let mut text = [7; 16383];
+    // the place as callers see it
     assert_eq!(rt;
         print_file(&[], &mut text).err(),
         Some(Fault::Memory.at(Layer::Running, 3))

@@ -1,21 +1,13 @@
-use Rattle.std.proofs.Common.{◌+◌, ◌-◌, true, false, arith}
+use Rattle.std.proofs.Common.{rules, arith, ◌∙◌}
+use Rattle.std.proofs.lemmas.Iterator.{YieldsList-from_range}
+use Rattle.std.proofs.lemmas.Iterator.Consumers.{count_from_yields_List, YieldsList-from_filter}
 use Rattle.set.specs.Sets.{models_of}
-use Rattle.placement.proofs.Steps.{heavies_next}
+use Rattle.placement.specs.Rules.{heavy}
+use Rattle.placement.proofs.Steps.{heavies_picked}
 use Rattle.placement.proofs.counted.count_heavy.Goals as goal
-use Rattle.placement.proofs.counted.count_heavy.Goals.{then-is_heavy, else-is_heavy}
 
-pub loop-model-preserved : goal.loop-model-preserved
-loop-model-preserved c =
-    let next = heavies_next c.args.set.now (c.loop-model.model - 1) _ _ c.known_weight-weight.ensures.is c.is_heavy.ensures (c.loop-model.model + 1 - 1) (omega arith) in
-    elim c.if-is_heavy.branch [
-      | then-is_heavy w ↦ let more = next true w.if-is_heavy.true in (omega (arith, w.count-is), omega (arith, w.count-is))
-      | else-is_heavy w ↦ let same = next false w.if-is_heavy.false in (omega (arith, w.count-is), omega (arith, w.count-is))
-    ]
-
-pub returns-after-is_heavy : goal.returns-after-is_heavy
-returns-after-is_heavy c =
-    let next = heavies_next c.args.set.now (c.loop-model.model - 1) _ _ c.known_weight-weight.ensures.is c.is_heavy.ensures (models_of c.args.set.now) (omega arith) in
-    elim c.if-is_heavy.branch [
-      | then-is_heavy w ↦ let more = next true w.if-is_heavy.true in omega (arith, w.count-is)
-      | else-is_heavy w ↦ let same = next false w.if-is_heavy.false in omega (arith, w.count-is)
-    ]
+pub returns : goal.returns
+returns c =
+    let set = c.args.set.now in
+    let all = count_from_yields_List c.filter.result c.count.result c.count.ensures.ran (YieldsList-from_filter _ (heavy set) (YieldsList-from_range 0 (models_of set) (models_of set) c.filter.ensures.source (omega arith)) c.filter.ensures.closure (λ x b q k. search rules)) in
+    all ∙ heavies_picked set (models_of set)
