@@ -8,7 +8,7 @@ use Rattle.std.proofs.lemmas.Simd.{map-map}
 use Rattle.std.proofs.lemmas.Grind.{common_steps}
 use Rattle.refusal.proofs.Firsts.{none_below}
 use Rattle.set.specs.Limits.{about_sizes, about_model, about_models, about_figures}
-use Rattle.set.specs.Models.{Timed, Costed, Clear, no_model, cost_at, period_at, slot_from}
+use Rattle.set.specs.Models.{Timed, Costed, Clear, no_model, cost_at, period_at}
 use Rattle.set.specs.declared.models.Model.{Model}
 
 -- past the sizes, only the models can be at fault
@@ -26,6 +26,10 @@ slot_is xs slots i = grind (arith, common_steps, get_or_past)
 pub filled : (xs : List ℕ) {slots : ℕ} → length xs ≤ slots → xs ++ replicate (slots - length xs) 0 ≡ map (λ i. get_or xs i 0) (range_with_len 0 slots)
 filled xs {slots} few =
     fill_by_all (λ i. get_or xs i 0) (xs ++ replicate (slots - length xs) 0) slots 0 (grind (arith, common_steps)) (λ i h. slot_is xs slots i)
+
+-- what stands in slot i, of these costs and periods
+abbrev pub slot_from : List ℕ → List ℕ → ℕ → Model
+slot_from costs periods i = record { cost = get_or costs i 0; period = get_or periods i 0 }
 
 -- what the slots of a set keep to
 pub record Lawful (n grain : ℕ) (models : List Model) (slots : ℕ) : Type 0 where

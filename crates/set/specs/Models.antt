@@ -1,5 +1,5 @@
 -- What the models of a set keep to.
-use Rattle.std.specs.Prelude.{◌≡◌, ℕ, ◌-◌, ◌%◌, ◌<◌, ◌≤◌, List, ◌++◌, length, replicate, slice_index, slice_index_or}
+use Rattle.std.specs.Prelude.{◌≡◌, ℕ, ◌-◌, ◌%◌, ◌<◌, ◌≤◌, List, ◌++◌, length, replicate, slice_index_or}
 use Rattle.set.specs.declared.models.Model.{Model}
 
 -- what a slot without a model holds
@@ -28,7 +28,3 @@ Clear n models = (i : ℕ) → n ≤ i → (cost_at models i ≡ 0) × (period_a
 -- 64 slots that begin with these numbers and are 0 behind them
 abbrev pub slots_of : List ℕ → List ℕ
 slots_of numbers = numbers ++ replicate (64 - length numbers) 0
-
--- what stands in slot i, of these costs and periods
-abbrev pub slot_from : List ℕ → List ℕ → ℕ → Model
-slot_from costs periods i = record { cost = slice_index costs i; period = slice_index periods i }

@@ -2,7 +2,7 @@ ghost use Rattle.std.specs.Prelude.{◌≡◌, length, map, None, slice_index};
 ghost use Rattle.std.specs.List.{range_with_len};
 ghost use Rattle.refusal.specs.Refusals.{Answers};
 ghost use Rattle.set.specs.Limits.{about_model, about_models};
-ghost use Rattle.set.specs.Models.{slot_from, slots_of};
+ghost use Rattle.set.specs.Models.{slots_of};
 ghost use Rattle.set.specs.Sets.{about, costs_of, periods_of, MadeOf};
 
 use crate::models::Model;
@@ -90,7 +90,7 @@ fn check_model(grain: u32, model: u64, cost: u32, period: u32) -> Result<(), Ref
 
 /// Each model of these costs and periods in its slot, and 0 behind the last.
 fn slots(costs: &[u32], periods: &[u32]) -> [Model; MODELS]
-    ensures { result ≡ map (slot_from costs.now periods.now) (range_with_len 0 64) }
+    ensures { result ≡ map (λ i. record { cost = slice_index costs.now i; period = slice_index periods.now i }) (range_with_len 0 64) }
 {
     array::from_fn(|i| Model {
         cost: nth(costs, i),

@@ -22,7 +22,8 @@ impl SizeKind {
     ghost use Rattle.std.specs.Prelude.{◌≡◌};
     ghost use Rattle.set.specs.Limits.{place_of};
 
-    /// The place at which a refusal names the size. A trait for the cast of an enum to its number would be longer than this.
+    // A trait for the cast of an enum to its number would be longer than this and its likes.
+    /// The place at which a refusal names the size.
     pub fn place(self) -> u64
         ensures { result ≡ place_of self }
     {

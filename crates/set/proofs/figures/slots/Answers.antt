@@ -1,5 +1,6 @@
 use Rattle.std.proofs.Common.{◌≡◌, refl, rules}
-use Rattle.set.specs.Models.{no_model, slot_from}
+use Rattle.set.specs.Models.{no_model}
+use Rattle.set.proofs.Faults.{slot_from}
 use Rattle.set.proofs.Arrays.{from_fn_map}
 use Rattle.set.proofs.figures.slots.Goals as goal
 
