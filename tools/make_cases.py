@@ -1,11 +1,13 @@
 """Writes what the programs are run on in the gate, and what they must print.
 
-crates/cases has many set files in hexadecimal; crates/print has one that goes on for a megabyte.
-Run it at the repository's root. What is expected comes from tools/reference.py, never from the proved programs.
+crates/cases has many set files in hexadecimal; crates/print has one that goes on for a megabyte; crates/served has
+lists of calls on queues. Run it at the repository's root. What is expected comes from tools/reference.py and
+tools/queue_reference.py, never from the proved programs.
 """
 import random
 import struct
 
+from queue_reference import KEYS, answer_of
 from reference import text_of
 
 
@@ -83,6 +85,37 @@ def drawn(source, count):
         yield set_file(workers, group_size, grain, costs, periods)
 
 
+def put(model, moment, parts):
+    return f"+{model},{moment},{parts}"
+
+
+def edges():
+    """Lists of calls at the edges of what a queue is lent, and numbers at the edges of their widths."""
+    for order in KEYS:
+        yield f"{order} 0 - =3 {put(1, 1, 1)} -"
+        yield f"{order} 1 - {put(1, 1, 1)} {put(2, 0, 1)} - - {put(2, 0, 1)} =0 =2 -"
+        yield f"{order} 2 {put(2, 7, 5)} {put(1, 7, 5)} {put(3, 0, 0)} - {put(3, 0, 0)} =2 -"
+        yield f"{order} 3 {put(9, 2**32 - 1, 0)} {put(2**32 - 1, 0, 2**64 - 1)} {put(1, 0, 2**64 - 1)} =3"
+        for moments in (range(64), range(63, -1, -1), [7] * 64):
+            things = [put(i + 1, moment, 64 - i) for i, moment in enumerate(moments)]
+            yield f"{order} 64 {' '.join(things)} {put(1, 1, 1)} =10 - - =64 -"
+        yield f"{order} 64 {' '.join([put(5, 5, 5)] * 64)} =64"
+
+
+def drawn_calls(source, order):
+    """Calls with many ties: few moments, and few models or few parts."""
+    slots = source.choice([1, 2, 3, 7, 8, 20, 64])
+    moments, models, most_parts = source.choice([(2, 64, 1), (3, 3, 3), (1, 64, 2), (20, 64, 100)])
+    calls = []
+    for _ in range(source.randint(1, 3 * slots)):
+        model, moment = source.randint(1, models), source.randrange(moments)
+        # by model alone, it is open which of two runs comes first that differ in their parts alone
+        parts = model + moment if order == "model" else source.randint(1, most_parts)
+        calls.append(source.choices([put(model, moment, parts), "-", f"={source.randint(0, slots + 1)}"], [20, 9, 1])[0])
+    calls.append(f"={source.choice([slots, slots // 2])}")
+    return f"{order} {slots} {' '.join(calls)}"
+
+
 def main():
     files = [*worked(), *damaged(), *drawn(random.Random(2026), 200)]
     with open("crates/cases/stdin", "w") as stdin:
@@ -94,6 +127,12 @@ def main():
         stdin.write(long)
     with open("crates/print/stdout", "w") as stdout:
         stdout.write(text_of(long))
+    source = random.Random(2026)
+    lines = [*edges(), *(drawn_calls(source, order) for order in KEYS for _ in range(50))]
+    with open("crates/served/stdin", "w") as stdin:
+        stdin.writelines(line + "\n" for line in lines)
+    with open("crates/served/stdout", "w") as stdout:
+        stdout.writelines(map(answer_of, lines))
 
 
 if __name__ == "__main__":

@@ -6,7 +6,7 @@ use Rattle.std.specs.List.Sorted.{IsPermutation}
 use Rattle.std.proofs.lemmas.List.{length-set, length-take-le, get_or-take, get_or-set_same, get_or-set_other, get_or_default, set-set, set_comm, take_more_set, drop-set-lt}
 use Rattle.std.proofs.lemmas.List.Edits.{swap_is}
 use Rattle.std.proofs.lemmas.List.Sorted.{IsPermutation-refl, IsPermutation-trans, IsPermutation-swap, IsPermutation-cons, IsPermutation-to_front, IsPermutation-sym}
-use Rattle.queue.specs.Queues.{Rearranged}
+use Rattle.queue.specs.Sifting.{Rearranged}
 
 module _ {X : Type 0} where
   -- what the list with x in the hole at j has elsewhere

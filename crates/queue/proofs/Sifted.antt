@@ -8,7 +8,8 @@ use Rattle.std.proofs.lemmas.List.{length-set, length-take-le, get_or-take, get_
 use Rattle.std.proofs.lemmas.List.Elements.{All-from_get_or}
 use Rattle.std.proofs.lemmas.List.Edits.{swapped_from_swap}
 use Rattle.std.proofs.lemmas.Bool.{cases_eq}
-use Rattle.queue.specs.Heaps.{Heaped, FirstChild, Unpreceded}
+use Rattle.queue.specs.Heaps.{Heaped, Unpreceded}
+use Rattle.queue.specs.Sifting.{FirstChild}
 use Rattle.queue.proofs.Holes.{hole_moves, off_hole}
 
 module _ {X : Type 0} (pre : X → X → Bool) where

@@ -6,13 +6,6 @@ module _ {X : Type 0} (precedes : X → X → Bool) where
   abbrev pub Heaped : List X → ℕ → Type 0
   Heaped xs n = (p k : ℕ) (d : X) → p * 2 + 1 ≤ k → k ≤ p * 2 + 2 → k < n → precedes (slice_index_or xs k d) (slice_index_or xs p d) ≡ false
 
-  -- c is a child of slot p among the first n, and no child there precedes it
-  pub record FirstChild (xs : List X) (p n c : ℕ) : Type 0 where
-    pub from : p * 2 + 1 ≤ c
-    pub to : c ≤ p * 2 + 2
-    pub within : c < n
-    pub first : (k : ℕ) (d : X) → p * 2 + 1 ≤ k → k ≤ p * 2 + 2 → k < n → precedes (slice_index_or xs k d) (slice_index_or xs c d) ≡ false
-
   -- none of xs precedes x
   abbrev pub Unpreceded : List X → X → Type 0
   Unpreceded xs x = All (λ y. precedes y x ≡ false) xs

@@ -1,2 +1,3 @@
 pub mod Heaps
 pub mod Queues
+pub mod Sifting

@@ -24,18 +24,6 @@ module _ {X : Type 0} where
   abbrev pub Keeps : (X → X → Bool) → Queue X → Queue X → Type 0
   Keeps precedes q r = Ordered precedes q → Ordered precedes r
 
-  -- ys is xs, but that the first n may stand in another order
-  pub record Rearranged (n : ℕ) (xs ys : List X) : Type 0 where
-    pub room : length ys ≡ length xs
-    pub holds : IsPermutation (take n xs) (take n ys)
-    pub behind : drop n ys ≡ drop n xs
-
-  -- r is q, but with these slots, of which the first n are rearranged
-  pub record Sifted (n : ℕ) (slots : List X) (q r : Queue X) : Type 0 where
-    pub counts : count_of r ≡ count_of q
-    pub lent : r.slots.ghost_name ≡ q.slots.ghost_name
-    pub things : Rearranged n slots (slots_of r)
-
   -- more holds just what fewer holds, and x
   pub record OneMore (x : X) (fewer more : Queue X) : Type 0 where
     pub holds : IsPermutation (x ∷ held fewer) (held more)

@@ -1,7 +1,8 @@
 //! How a thing finds its slot: others move along into the hole, until it may stand in the hole itself.
 ghost use Rattle.std.specs.Prelude.{◌+◌, ◌*◌, ◌<◌, ◌≤◌, length, slice_set};
-ghost use Rattle.queue.specs.Heaps.{Heaped, FirstChild};
-ghost use Rattle.queue.specs.Queues.{slots_of, count_of, Sifted};
+ghost use Rattle.queue.specs.Heaps.{Heaped};
+ghost use Rattle.queue.specs.Queues.{slots_of, count_of};
+ghost use Rattle.queue.specs.Sifting.{FirstChild, Sifted};
 
 use super::Queue;
 use order::Order;

@@ -7,3 +7,5 @@ mod figures;
 mod files;
 #[cfg(test)]
 mod plans;
+#[cfg(test)]
+mod queues;

@@ -1,6 +1,7 @@
 use Rattle.std.proofs.Common.{◌≡◌, ◌-◌, ◌<◌, ◌≤◌, length, set}
 use Rattle.queue.specs.Heaps.{Heaped}
-use Rattle.queue.specs.Queues.{slots_of, count_of, Rearranged}
+use Rattle.queue.specs.Queues.{slots_of, count_of}
+use Rattle.queue.specs.Sifting.{Rearranged}
 use Rattle.queue.proofs.Sifted.{Sinking}
 use Rattle.queue.proofs.Queue.sink.Given as goal
 
