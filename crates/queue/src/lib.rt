@@ -21,14 +21,21 @@ pub struct Queue<'a, T> {
 }
 
 impl<T> Queue<'_, T> {
-    ghost use Rattle.std.specs.Prelude.{◌≡◌};
-    ghost use Rattle.queue.specs.Queues.{held};
+    ghost use Rattle.std.specs.Prelude.{◌≡◌, ◌↔◌, IsTrue};
+    ghost use Rattle.queue.specs.Queues.{count_of, held};
 
     /// How many things it holds.
     pub fn len(&self) -> usize
         ensures { result ≡ length (held self.now) }
     {
         self.count
+    }
+
+    /// Whether it holds nothing.
+    pub fn is_empty(&self) -> bool
+        ensures { IsTrue result ↔ (count_of self.now ≡ 0) }
+    {
+        self.len() == 0
     }
 }
 

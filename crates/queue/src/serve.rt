@@ -40,7 +40,7 @@ impl<'a, T: Copy> Queue<'a, T> {
         ensures first { Ordered (O.precedes order.now) self.old → IfSome result (Unpreceded (O.precedes order.now) (held self.old)) }
         ensures stays { Stays (O.precedes order.now) self.old self.new }
     {
-        if self.count == 0 {
+        if self.is_empty() {
             return None;
         }
         Some(self.take_first(order))

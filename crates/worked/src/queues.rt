@@ -73,6 +73,7 @@ fn entries_with_ties(rt: HostRuntime) -> Result<(), Fail> {
 fn full_and_empty(rt: HostRuntime) {
     let mut slots = [entry(1, 1); 3];
     let mut queue = Queue::new(&mut slots[..2]);
+    assert!(rt; queue.is_empty());
     assert_eq!(rt; queue.take(&ByTick), None);
     assert_eq!(rt; queue.put(&ByTick, entry(4, 2)), Ok(()));
     assert_eq!(rt; queue.put(&ByTick, entry(4, 1)), Ok(()));
