@@ -1,9 +1,9 @@
 //! Runs that are not complete yet, and two orders of them.
 ghost use Rattle.order.specs.Keys.{by_keys};
 ghost use Rattle.order.proofs.Keyed.{by_keys-OrderLaws};
-ghost use Rattle.kinds.specs.Keys.{by_model, by_remaining};
+ghost use Rattle.kinds.specs.Keys.{keys_by_model, keys_by_remaining};
 
-use order::Order;
+use order::{Order, Thing};
 
 /// A run of a model: the tick that is its deadline, and the parts that it still needs.
 #[derive(Clone, Copy, Debug, PartialEq, Eq, Hash)]
@@ -13,6 +13,12 @@ pub struct Run {
     pub remaining: u64,
 }
 
+impl Thing for Run {
+    ghost model = { λ r. r.model };
+
+    ghost moment = { λ r. r.deadline };
+}
+
 /// The earlier deadline first; ties by model number.
 #[derive(Clone, Copy, Debug, Default, PartialEq, Eq, Hash)]
 pub struct ByModel;
@@ -20,13 +26,9 @@ pub struct ByModel;
 impl Order for ByModel {
     type Item = Run;
 
-    ghost model = { λ r. r.model };
+    ghost precedes = { λ _. by_keys keys_by_model };
 
-    ghost moment = { λ r. r.deadline };
-
-    ghost precedes = { λ _. by_keys by_model };
-
-    ghost laws = { λ _. by_keys-OrderLaws by_model 1 };
+    ghost laws = { λ _. by_keys-OrderLaws keys_by_model 1 };
 
     fn before(&self, a: &Run, b: &Run) -> bool {
         (a.deadline, a.model) < (b.deadline, b.model)
@@ -40,13 +42,9 @@ pub struct ByRemaining;
 impl Order for ByRemaining {
     type Item = Run;
 
-    ghost model = { λ r. r.model };
+    ghost precedes = { λ _. by_keys keys_by_remaining };
 
-    ghost moment = { λ r. r.deadline };
-
-    ghost precedes = { λ _. by_keys by_remaining };
-
-    ghost laws = { λ _. by_keys-OrderLaws by_remaining 2 };
+    ghost laws = { λ _. by_keys-OrderLaws keys_by_remaining 2 };
 
     fn before(&self, a: &Run, b: &Run) -> bool {
         (a.deadline, a.remaining, a.model) < (b.deadline, b.remaining, b.model)

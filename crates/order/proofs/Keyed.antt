@@ -6,9 +6,9 @@ use Rattle.std.proofs.lemmas.Bool.Decides.{nat_tests}
 use Rattle.std.proofs.lemmas.Cmp.{nat_list_cmp_total, tied_itself}
 use Rattle.std.proofs.lemmas.List.Sorted.{ranks_by}
 use Rattle.order.specs.Laws.{NeverItself, Carries, AbsenceCarries, OneOfTwo, EarlierFirst, OrderLaws}
-use Rattle.order.specs.Keys.{lower, by_keys}
+use Rattle.order.specs.Keys.{is_lower, by_keys}
 
-list_never : NeverItself lower
+list_never : NeverItself is_lower
 list_never xs = ap is_lt (tied_itself nat_list_cmp_total xs)
 
 less : (o : Ordering) → is_lt o ≡ true → o ≡ Less
@@ -16,10 +16,10 @@ less Less h = refl
 less Equal h = absurd cc
 less Greater h = absurd cc
 
-list_carries : Carries lower
+list_carries : Carries is_lower
 list_carries xs ys zs p q = ap is_lt (nat_list_cmp_total.trans xs ys zs (less _ p) (less _ q))
 
-list_absent : AbsenceCarries lower
+list_absent : AbsenceCarries is_lower
 list_absent = (ranks_by nat_list_cmp_total (λ (xs : List ℕ). xs)).chain
 
 differ : (o back : Ordering) → o ≡ ordering_reverse back → (o ≡ Equal → ⊥) → is_lt o ≡ not (is_lt back)
@@ -27,10 +27,10 @@ differ o Less e ne = ap is_lt e
 differ o Equal e ne = absurd (ne e)
 differ o Greater e ne = ap is_lt e
 
-list_differs : (xs ys : List ℕ) → (xs ≡ ys → ⊥) → lower xs ys ≡ not (lower ys xs)
+list_differs : (xs ys : List ℕ) → (xs ≡ ys → ⊥) → is_lower xs ys ≡ not (is_lower ys xs)
 list_differs xs ys h = differ _ _ (nat_list_cmp_total.antisymm xs ys) (λ e. h (slice_cmp-IsAntisymmetric nat_cmp-IsAntisymmetric xs ys e))
 
-list_earlier : (xs ys : List ℕ) → get_or xs 0 0 < get_or ys 0 0 → lower xs ys ≡ true
+list_earlier : (xs ys : List ℕ) → get_or xs 0 0 < get_or ys 0 0 → is_lower xs ys ≡ true
 list_earlier [] [] h = absurd (omega arith)
 list_earlier [] (y ∷ ys) h = refl
 list_earlier (x ∷ xs) [] h = absurd (omega arith)

@@ -12,9 +12,13 @@ module _ {X : Type 0} where
   abbrev pub count_of : Queue X → ℕ
   count_of q = q.count
 
+  -- the name of the loan: while it is the same, the slots are
+  abbrev pub loan_of : Queue X → ℕ
+  loan_of q = q.slots.ghost_name
+
   -- the things that it holds
-  abbrev pub held : Queue X → List X
-  held q = take (count_of q) (slots_of q)
+  abbrev pub things_of : Queue X → List X
+  things_of q = take (count_of q) (slots_of q)
 
   -- it stands in this order: an empty queue stands in every order
   abbrev pub Ordered : (X → X → Bool) → Queue X → Type 0
@@ -26,7 +30,7 @@ module _ {X : Type 0} where
 
   -- more holds just what fewer holds, and x
   pub record OneMore (x : X) (fewer more : Queue X) : Type 0 where
-    pub holds : IsPermutation (x ∷ held fewer) (held more)
+    pub holds : IsPermutation (x ∷ things_of fewer) (things_of more)
     pub counts : count_of more ≡ count_of fewer + 1
 
 module _ {X : Type 0} (precedes : X → X → Bool) where
@@ -35,15 +39,15 @@ module _ {X : Type 0} (precedes : X → X → Bool) where
     pub room : length (slots_of r) ≡ length (slots_of q)
     pub behind : drop (count_of r) (slots_of r) ≡ drop (count_of r) (slots_of q)
     pub keeps : Keeps precedes q r
-    pub lent : r.slots.ghost_name ≡ q.slots.ghost_name
+    pub lent : loan_of r ≡ loan_of q
 
-  -- n things went from q, which is r afterwards, to the front of out, which is new afterwards
+  -- n things went from q, which is r afterwards, to the front of out, which is new afterwards; the slots that became free may hold anything
   pub record Drained (n : ℕ) (q r : Queue X) (out new : List X) : Type 0 where
     pub counts : count_of q ≡ n + count_of r
-    pub holds : IsPermutation (held q) (take n new ++ held r)
+    pub holds : IsPermutation (things_of q) (take n new ++ things_of r)
     pub room : length (slots_of r) ≡ length (slots_of q)
     pub behind : drop (count_of q) (slots_of r) ≡ drop (count_of q) (slots_of q)
     pub keeps : Keeps precedes q r
-    pub lent : r.slots.ghost_name ≡ q.slots.ghost_name
+    pub lent : loan_of r ≡ loan_of q
     pub as_long : length new ≡ length out
     pub rest : drop n new ≡ drop n out

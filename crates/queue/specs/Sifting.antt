@@ -1,7 +1,7 @@
 -- What the steps inside a put or a take promise each other; no public contract speaks of it.
 use Rattle.std.specs.Prelude.{◌≡◌, ℕ, ◌+◌, ◌*◌, ◌<◌, ◌≤◌, Bool, false, List, length, take, drop, slice_index_or}
 use Rattle.std.specs.List.Sorted.{IsPermutation}
-use Rattle.queue.specs.Queues.{slots_of, count_of}
+use Rattle.queue.specs.Queues.{slots_of, count_of, loan_of}
 use Rattle.queue.specs.declared.Queue.{Queue}
 
 module _ {X : Type 0} where
@@ -21,5 +21,5 @@ module _ {X : Type 0} where
   -- r is q, but with these slots, of which the first n are rearranged
   pub record Sifted (n : ℕ) (slots : List X) (q r : Queue X) : Type 0 where
     pub counts : count_of r ≡ count_of q
-    pub lent : r.slots.ghost_name ≡ q.slots.ghost_name
+    pub lent : loan_of r ≡ loan_of q
     pub things : Rearranged n slots (slots_of r)

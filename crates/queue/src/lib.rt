@@ -1,4 +1,4 @@
-//! A queue over lent slots, from which what comes first is taken first.
+//! A queue over lent slots, from which, under one order, what comes first is taken first.
 #![tactic(auto)]
 
 ghost use Rattle.std.specs.Prelude.{◌≤◌, length, Some, codes};
@@ -10,7 +10,7 @@ mod sift;
 use std::error::Error;
 use std::fmt;
 
-/// A heap: the things stand in the first `count` slots, none of them before its parent, which for slot k is slot (k - 1) / 2.
+/// A heap: the things stand in the first `count` slots, and under one order throughout none precedes its parent, which for slot k is slot (k - 1) / 2.
 /// A lent slice and a count, since nothing allocates. The order in which they stand is lent to each call, so a queue owns none.
 /// No view by `Model`: clauses speak of the slots, the count and the loan, and that is all there is.
 #[derive(Drop)]
@@ -22,11 +22,11 @@ pub struct Queue<'a, T> {
 
 impl<T> Queue<'_, T> {
     ghost use Rattle.std.specs.Prelude.{◌≡◌, ◌↔◌, IsTrue};
-    ghost use Rattle.queue.specs.Queues.{count_of, held};
+    ghost use Rattle.queue.specs.Queues.{count_of, things_of};
 
     /// How many things it holds.
     pub fn len(&self) -> usize
-        ensures { result ≡ length (held self.now) }
+        ensures { result ≡ length (things_of self.now) }
     {
         self.count
     }

@@ -1,7 +1,7 @@
 //! What can be done with a queue.
-ghost use Rattle.std.specs.Prelude.{◌≡◌, ◌<◌, Bool, length, IfSome, MatchOption, MatchResult};
+ghost use Rattle.std.specs.Prelude.{◌≡◌, ◌<◌, Bool, length, IfNone, IfSome, OnErr, OnOk};
 ghost use Rattle.queue.specs.Heaps.{Unpreceded};
-ghost use Rattle.queue.specs.Queues.{slots_of, count_of, held, Ordered, OneMore, Stays};
+ghost use Rattle.queue.specs.Queues.{slots_of, count_of, loan_of, things_of, Ordered, OneMore, Stays};
 
 use super::{Full, Queue};
 use order::Order;
@@ -12,7 +12,7 @@ impl<'a, T> Queue<'a, T> {
         ensures over { slots_of result ≡ slots.old }
         ensures empty { count_of result ≡ 0 }
         ensures ordered { (precedes : T → T → Bool) → Ordered precedes result }
-        ensures lent { result.slots.ghost_name ≡ slots.entry.ghost_name }
+        ensures lent { loan_of result ≡ slots.entry.ghost_name }
     {
         Queue { slots, count: 0 }
     }
@@ -22,7 +22,9 @@ impl<'a, T: Copy> Queue<'a, T> {
     /// Adds a thing, unless all slots are in use.
     #[tactic(auto, using(crate::proofs::Holes::put_holds))]
     pub fn put<O: Order<Item = T>>(&mut self, order: &O, thing: T) -> Result<(), Full>
-        ensures puts { MatchResult result (λ _. OneMore thing self.old self.new) (λ _. (count_of self.old ≡ length (slots_of self.old)) × (self.new ≡ self.old)) }
+        ensures puts { OnOk result (OneMore thing self.old self.new) }
+        ensures full { OnErr result (count_of self.old ≡ length (slots_of self.old)) }
+        ensures unchanged { OnErr result (self.new ≡ self.old) }
         ensures stays { Stays (O.precedes order.now) self.old self.new }
     {
         let count = self.count;
@@ -34,10 +36,12 @@ impl<'a, T: Copy> Queue<'a, T> {
         Ok(())
     }
 
-    /// Takes out what no other thing that it holds precedes, unless it holds nothing.
+    /// Takes out a thing, unless none is held: under one order throughout, one that no other precedes.
     pub fn take<O: Order<Item = T>>(&mut self, order: &O) -> Option<T>
-        ensures takes { MatchOption result ((count_of self.old ≡ 0) × (self.new ≡ self.old)) (λ thing. OneMore thing self.new self.old) }
-        ensures first { Ordered (O.precedes order.now) self.old → IfSome result (Unpreceded (O.precedes order.now) (held self.old)) }
+        ensures takes { IfSome result (λ thing. OneMore thing self.new self.old) }
+        ensures empty { IfNone result (count_of self.old ≡ 0) }
+        ensures unchanged { IfNone result (self.new ≡ self.old) }
+        ensures first { Ordered (O.precedes order.now) self.old → IfSome result (Unpreceded (O.precedes order.now) (things_of self.old)) }
         ensures stays { Stays (O.precedes order.now) self.old self.new }
     {
         if self.is_empty() {
@@ -46,12 +50,12 @@ impl<'a, T: Copy> Queue<'a, T> {
         Some(self.take_first(order))
     }
 
-    /// Takes out what stands in the first slot; the thing in the last slot sinks from there.
+    /// Takes out what stands in the first slot; the thing in the last slot in use sinks from there.
     #[tactic(auto, using(crate::proofs::Holes::took))]
     pub(crate) fn take_first<O: Order<Item = T>>(&mut self, order: &O) -> T
         requires { 0 < count_of self.old }
         ensures takes { OneMore result self.new self.old }
-        ensures first { Ordered (O.precedes order.now) self.old → Unpreceded (O.precedes order.now) (held self.old) result }
+        ensures first { Ordered (O.precedes order.now) self.old → Unpreceded (O.precedes order.now) (things_of self.old) result }
         ensures stays { Stays (O.precedes order.now) self.old self.new }
     {
         let left = self.count - 1;

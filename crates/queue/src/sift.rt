@@ -8,7 +8,7 @@ use super::Queue;
 use order::Order;
 
 impl<'a, T: Copy> Queue<'a, T> {
-    /// Makes room for a thing on the way up from the first free slot.
+    /// Writes a thing where it belongs on the way up from the first free slot; the count stays.
     pub(crate) fn rise<O: Order<Item = T>>(&mut self, order: &O, thing: T)
         requires { count_of self.old < length (slots_of self.old) }
         ensures sifts { Sifted (count_of self.old + 1) (slice_set (slots_of self.old) (count_of self.old) thing) self.old self.new }
@@ -28,7 +28,7 @@ impl<'a, T: Copy> Queue<'a, T> {
         self.slots[hole] = thing;
     }
 
-    /// Makes room for a thing on the way down from the first slot, among the first `left`.
+    /// Writes a thing where it belongs on the way down from the first slot, among the first `left`; the count stays.
     pub(crate) fn sink<O: Order<Item = T>>(&mut self, order: &O, thing: T, left: usize)
         requires { left < length (slots_of self.old) }
         ensures sifts { Sifted left (slice_set (slots_of self.old) 0 thing) self.old self.new }

@@ -8,7 +8,7 @@
 use anyhow::{Context, Result, bail};
 use kinds::entries::ByTick;
 use kinds::runs::{ByModel, ByRemaining};
-use numbers::{Numbers, Thing};
+use numbers::{Numbered, Numbers};
 use order::Order;
 use queue::Queue;
 use std::alloc::Global;
@@ -18,7 +18,7 @@ use std::str::SplitAsciiWhitespace;
 mod numbers;
 
 /// Makes one call, and writes its answer.
-fn call<T: Thing, O: Order<Item = T>, W: Write>(
+fn call<T: Numbered, O: Order<Item = T>, W: Write>(
     heap: Global,
     order: &O,
     queue: &mut Queue<'_, T>,
@@ -46,7 +46,7 @@ fn call<T: Thing, O: Order<Item = T>, W: Write>(
 }
 
 /// Makes all calls of a line, over slots that are lent blank.
-fn play<T: Thing, O: Order<Item = T>, W: Write>(
+fn play<T: Numbered, O: Order<Item = T>, W: Write>(
     heap: Global,
     order: &O,
     lent: usize,

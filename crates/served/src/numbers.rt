@@ -34,13 +34,13 @@ impl fmt::Display for Numbers {
 }
 
 /// What is made of numbers, and tells them.
-pub trait Thing: Copy {
+pub trait Numbered: Copy {
     fn of(numbers: Numbers) -> Self;
 
     fn numbers(self) -> Numbers;
 }
 
-impl Thing for Entry {
+impl Numbered for Entry {
     fn of(numbers: Numbers) -> Entry {
         Entry {
             tick: numbers.moment,
@@ -57,7 +57,7 @@ impl Thing for Entry {
     }
 }
 
-impl Thing for Run {
+impl Numbered for Run {
     fn of(numbers: Numbers) -> Run {
         Run {
             model: numbers.model,

@@ -5,7 +5,7 @@ ghost use Rattle.order.proofs.Keyed.{by_keys-OrderLaws};
 
 use kinds::entries::{ByTick, Entry};
 use kinds::runs::{ByModel, ByRemaining, Run};
-use order::Order;
+use order::{Order, Thing};
 use queue::{Full, Queue};
 use std::test::Fail;
 
@@ -113,14 +113,16 @@ struct Late {
     model: u32,
 }
 
+impl Thing for Late {
+    ghost model = { λ l. l.model };
+
+    ghost moment = { λ l. l.moment };
+}
+
 struct ByMoment;
 
 impl Order for ByMoment {
     type Item = Late;
-
-    ghost model = { λ l. l.model };
-
-    ghost moment = { λ l. l.moment };
 
     ghost precedes = { λ _. by_keys (λ l. l.moment ∷ l.model ∷ []) };
 

@@ -1,7 +1,7 @@
 use Rattle.std.proofs.Common.{take, arith}
 use Rattle.std.proofs.lemmas.List.{take_more_set}
 use Rattle.std.proofs.lemmas.List.Sorted.{IsPermutation-sym}
-use Rattle.queue.specs.Queues.{held}
+use Rattle.queue.specs.Queues.{things_of}
 use Rattle.queue.proofs.Drains.{drained_more, served_more}
 use Rattle.queue.proofs.Queue.drain.Goals as goal
 
@@ -16,5 +16,5 @@ loop-slot-preserved g c =
     record {
       drains = drained_more pre i c.args.self.now l.self s _ l.slot-items x c.loop-slot-test.true taken.takes taken.stays l.invariant.drains;
       served = λ h. rw (take_more_set l.slot-items i x (omega arith))
-          (served_more pre (take i l.slot-items) (held l.self) (held s) x (IsPermutation-sym _ _ taken.takes.holds) (taken.first (l.invariant.drains.keeps h)) (l.invariant.served h));
+          (served_more pre (take i l.slot-items) (things_of l.self) (things_of s) x (IsPermutation-sym _ _ taken.takes.holds) (taken.first (l.invariant.drains.keeps h)) (l.invariant.served h));
     }

@@ -19,5 +19,5 @@ loop-hole-preserved g c =
       counts = l.invariant.counts;
       lent = l.invariant.lent;
       things = Rearranged-moves (n + 1) (set c.args.self.now.slots.now n x) s l.hole up x d (omega arith) (omega arith) (omega arith) (omega arith) l.invariant.things;
-      rising = λ h. rise_turn (g.O.Order.precedes w) (ranked (g.O.Order.laws w)) s l.hole n x d (omega arith) (omega arith) (omega arith) c.if-not-before.ensures (l.invariant.rising h);
+      rising = λ h. rise_turn (g.O.Order.precedes w) (ranked (g.met.O.Order.laws w)) s l.hole n x d (omega arith) (omega arith) (omega arith) c.if-not-before.ensures (l.invariant.rising h);
     }

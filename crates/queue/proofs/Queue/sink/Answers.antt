@@ -23,7 +23,7 @@ loop-hole-preserved g c =
       counts = l.invariant.counts;
       lent = l.invariant.lent;
       things = Rearranged-moves left (set c.args.self.now.slots.now 0 x) s l.hole u x d (omega arith) (omega arith) (omega arith) (omega arith) l.invariant.things;
-      sinking = λ h. sink_turn (g.O.Order.precedes w) (ranked (g.O.Order.laws w)) s l.hole u left x d (omega arith) child c.if-not-before.ensures (l.invariant.sinking h);
+      sinking = λ h. sink_turn (g.O.Order.precedes w) (ranked (g.met.O.Order.laws w)) s l.hole u left x d (omega arith) child c.if-not-before.ensures (l.invariant.sinking h);
     }
 
 pub returns-clause-ordered : goal.returns-clause-ordered
@@ -35,5 +35,5 @@ returns-clause-ordered g c =
     let pre = g.O.Order.precedes w in
     λ h. elim c.loop-hole-test.branch [
       | else-loop-hole-test v ↦ sink_ends pre (set s l.hole c.args.thing) l.hole left (omega arith) (l.invariant.sinking h)
-      | then-loop-hole-test+then-not-before v ↦ sink_stops pre (ranked (g.O.Order.laws w)) s l.hole v.first_child-child.result left c.args.thing v.index-self-child.result (omega arith) v.first_child-child.ensures v.if-not-before.ensures (l.invariant.sinking h)
+      | then-loop-hole-test+then-not-before v ↦ sink_stops pre (ranked (g.met.O.Order.laws w)) s l.hole v.first_child-child.result left c.args.thing v.index-self-child.result (omega arith) v.first_child-child.ensures v.if-not-before.ensures (l.invariant.sinking h)
     ]

@@ -7,4 +7,4 @@ pub returns-clause-first : goal.returns-clause-first
 returns-clause-first g c =
     let w = c.args.order.now in
     let q = c.args.self.now in
-    λ h. unpreceded (g.O.Order.precedes w) (ranked (g.O.Order.laws w)) q.slots.now q.count _ (omega arith) (omega arith) h
+    λ h. unpreceded (g.O.Order.precedes w) (ranked (g.met.O.Order.laws w)) q.slots.now q.count _ (omega arith) (omega arith) h
