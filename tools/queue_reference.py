@@ -34,6 +34,8 @@ def answer_of(line):
         elif call[0] == "=":
             for _ in range(min(int(call[1:]), len(held))):
                 take()
+        elif call != "-":
+            raise ValueError(call)
         elif held:
             take()
         else:

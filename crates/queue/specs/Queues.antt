@@ -12,7 +12,7 @@ module _ {X : Type 0} where
   abbrev pub count_of : Queue X → ℕ
   count_of q = q.count
 
-  -- the name of the loan: while it is the same, the slots are
+  -- the name of the loan: while it stays, the queue is over the same slots, whatever they hold
   abbrev pub loan_of : Queue X → ℕ
   loan_of q = q.slots.ghost_name
 
@@ -34,14 +34,14 @@ module _ {X : Type 0} where
     pub counts : count_of more ≡ count_of fewer + 1
 
 module _ {X : Type 0} (precedes : X → X → Bool) where
-  -- from q to r, the loan is the same one, the order stays, and the slots behind what r holds stay as they were
+  -- from q to r, the loan and the number of slots stay, and so do the slots behind what r holds, and the order, if q stands in it
   pub record Stays (q r : Queue X) : Type 0 where
     pub room : length (slots_of r) ≡ length (slots_of q)
     pub behind : drop (count_of r) (slots_of r) ≡ drop (count_of r) (slots_of q)
     pub keeps : Keeps precedes q r
     pub lent : loan_of r ≡ loan_of q
 
-  -- n things went from q, which is r afterwards, to the front of out, which is new afterwards; the slots that became free may hold anything
+  -- n things went from q, which is r afterwards, to the front of out, which is new afterwards; slots that became free may hold anything
   pub record Drained (n : ℕ) (q r : Queue X) (out new : List X) : Type 0 where
     pub counts : count_of q ≡ n + count_of r
     pub holds : IsPermutation (things_of q) (take n new ++ things_of r)

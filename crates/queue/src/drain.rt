@@ -7,7 +7,7 @@ ghost use Rattle.queue.specs.Queues.{count_of, things_of, Ordered, Drained};
 use super::Queue;
 use order::Order;
 
-impl<'a, T: Copy> Queue<'a, T> {
+impl<T: Copy> Queue<'_, T> {
     /// Moves things to `out`, under one order throughout in that order, until none is held or `out` is full; answers how many.
     pub fn drain<O: Order<Item = T>>(&mut self, order: &O, out: &mut [T]) -> usize
         ensures drains { Drained (O.precedes order.now) result self.old self.new out.old out.new }

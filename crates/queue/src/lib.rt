@@ -22,7 +22,7 @@ pub struct Queue<'a, T> {
 
 impl<T> Queue<'_, T> {
     ghost use Rattle.std.specs.Prelude.{◌≡◌, ◌↔◌, IsTrue};
-    ghost use Rattle.queue.specs.Queues.{count_of, things_of};
+    ghost use Rattle.queue.specs.Queues.{things_of};
 
     /// How many things it holds.
     pub fn len(&self) -> usize
@@ -33,7 +33,7 @@ impl<T> Queue<'_, T> {
 
     /// Whether it holds nothing.
     pub fn is_empty(&self) -> bool
-        ensures { IsTrue result ↔ (count_of self.now ≡ 0) }
+        ensures { IsTrue result ↔ (length (things_of self.now) ≡ 0) }
     {
         self.len() == 0
     }

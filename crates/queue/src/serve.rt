@@ -18,7 +18,7 @@ impl<'a, T> Queue<'a, T> {
     }
 }
 
-impl<'a, T: Copy> Queue<'a, T> {
+impl<T: Copy> Queue<'_, T> {
     /// Adds a thing, unless all slots are in use.
     #[tactic(auto, using(crate::proofs::Holes::put_holds))]
     pub fn put<O: Order<Item = T>>(&mut self, order: &O, thing: T) -> Result<(), Full>

@@ -7,7 +7,7 @@ ghost use Rattle.queue.specs.Sifting.{FirstChild, Sifted};
 use super::Queue;
 use order::Order;
 
-impl<'a, T: Copy> Queue<'a, T> {
+impl<T: Copy> Queue<'_, T> {
     /// Writes a thing where it belongs on the way up from the first free slot; the count stays.
     pub(crate) fn rise<O: Order<Item = T>>(&mut self, order: &O, thing: T)
         requires { count_of self.old < length (slots_of self.old) }

@@ -33,44 +33,41 @@ impl fmt::Display for Numbers {
     }
 }
 
-/// What is made of numbers, and tells them.
-pub trait Numbered: Copy {
-    fn of(numbers: Numbers) -> Self;
-
-    fn numbers(self) -> Numbers;
-}
-
-impl Numbered for Entry {
-    fn of(numbers: Numbers) -> Entry {
+impl From<Numbers> for Entry {
+    fn from(numbers: Numbers) -> Entry {
         Entry {
             tick: numbers.moment,
             model: numbers.model,
         }
     }
+}
 
-    fn numbers(self) -> Numbers {
+impl From<Entry> for Numbers {
+    fn from(entry: Entry) -> Numbers {
         Numbers {
-            model: self.model,
-            moment: self.tick,
+            model: entry.model,
+            moment: entry.tick,
             remaining: 0,
         }
     }
 }
 
-impl Numbered for Run {
-    fn of(numbers: Numbers) -> Run {
+impl From<Numbers> for Run {
+    fn from(numbers: Numbers) -> Run {
         Run {
             model: numbers.model,
             deadline: numbers.moment,
             remaining: numbers.remaining,
         }
     }
+}
 
-    fn numbers(self) -> Numbers {
+impl From<Run> for Numbers {
+    fn from(run: Run) -> Numbers {
         Numbers {
-            model: self.model,
-            moment: self.deadline,
-            remaining: self.remaining,
+            model: run.model,
+            moment: run.deadline,
+            remaining: run.remaining,
         }
     }
 }
