@@ -4,7 +4,7 @@
 ghost use Rattle.std.specs.Prelude.{◌≡◌, ℕ, Bool};
 ghost use Rattle.order.specs.Laws.{OrderLaws};
 
-/// A kind of thing. Each thing belongs to a model and has a moment, in whatever order; moments may have any width.
+/// A kind of thing. Each thing belongs to a model and has a moment, the same for every order; moments may have any width.
 pub trait Thing {
     /// The number of its model.
     ghost model: { Self → ℕ };

@@ -15,22 +15,27 @@ module _ {X : Type 0} where
       let is : c + (m - c) ≡ m = omega arith in
       cc (drop-drop (m - c) c xs, drop-drop (m - c) c ys)
 
+  pub drained_more : (n : ℕ) (q r s : Queue X) (out new : List X) (x : X) → n < length out → OneMore x s r → Drained n q r out new → Drained (n + 1) q s out (set new n x)
+  drained_more n q r s out new x lt one was =
+      let counts : count_of q ≡ n + count_of r = was.counts in
+      let fewer : count_of r ≡ count_of s + 1 = one.counts in
+      let within : n < length new = omega (arith, was.as_long) in
+      record {
+        counts = omega arith;
+        holds = rw take_more_set (IsPermutation-pop_more _ _ _ _ x was.holds (IsPermutation-sym _ _ one.holds));
+        as_long = length-set new n x ∙ was.as_long;
+        rest = cc (drop-set-lt (n + 1) new n x (omega arith), drop_later new out n (n + 1) (omega arith) was.rest);
+      }
+
   module _ (precedes : X → X → Bool) where
-    pub drained_more : (n : ℕ) (q r s : Queue X) (out new : List X) (x : X) → n < length out → OneMore x s r → Stays precedes r s → Drained precedes n q r out new → Drained precedes (n + 1) q s out (set new n x)
-    drained_more n q r s out new x lt one stays was =
-        let counts : count_of q ≡ n + count_of r = was.counts in
-        let fewer : count_of r ≡ count_of s + 1 = one.counts in
-        let within : n < length new = omega (arith, was.as_long) in
-        record {
-          counts = omega arith;
-          holds = rw take_more_set (IsPermutation-pop_more _ _ _ _ x was.holds (IsPermutation-sym _ _ one.holds));
-          room = cc;
-          behind = drop_later (slots_of s) (slots_of r) (count_of s) (count_of q) (omega arith) stays.behind ∙ was.behind;
-          keeps = λ h. stays.keeps (was.keeps h);
-          lent = cc;
-          as_long = length-set new n x ∙ was.as_long;
-          rest = cc (drop-set-lt (n + 1) new n x (omega arith), drop_later new out n (n + 1) (omega arith) was.rest);
-        }
+    -- what stays from q to r, and then from r to s
+    pub stays_on : (m n : ℕ) (q r s : Queue X) → n ≤ m → Stays precedes m q r → Stays precedes n r s → Stays precedes m q s
+    stays_on m n q r s le was now = record {
+      room = cc;
+      behind = drop_later (slots_of s) (slots_of r) n m le now.behind ∙ was.behind;
+      keeps = λ h. now.keeps (was.keeps h);
+      lent = cc;
+    }
 
     pub served_more : (out ys zs : List X) (x : X) → IsPermutation ys (x ∷ zs) → Unpreceded precedes ys x → Served precedes out ys → Served precedes (out ++ x ∷ []) zs
     served_more out ys zs x t first h =

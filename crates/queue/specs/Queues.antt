@@ -24,30 +24,21 @@ module _ {X : Type 0} where
   abbrev pub Ordered : (X → X → Bool) → Queue X → Type 0
   Ordered precedes q = Heaped precedes (slots_of q) (count_of q)
 
-  -- if q stands in this order, r does
-  abbrev pub Keeps : (X → X → Bool) → Queue X → Queue X → Type 0
-  Keeps precedes q r = Ordered precedes q → Ordered precedes r
-
   -- more holds just what fewer holds, and x
   pub record OneMore (x : X) (fewer more : Queue X) : Type 0 where
     pub holds : IsPermutation (x ∷ things_of fewer) (things_of more)
     pub counts : count_of more ≡ count_of fewer + 1
 
-module _ {X : Type 0} (precedes : X → X → Bool) where
-  -- from q to r, the loan and the number of slots stay, and so do the slots behind what r holds, and the order, if q stands in it
-  pub record Stays (q r : Queue X) : Type 0 where
-    pub room : length (slots_of r) ≡ length (slots_of q)
-    pub behind : drop (count_of r) (slots_of r) ≡ drop (count_of r) (slots_of q)
-    pub keeps : Keeps precedes q r
-    pub lent : loan_of r ≡ loan_of q
-
-  -- n things went from q, which is r afterwards, to the front of out, which is new afterwards; slots that became free may hold anything
+  -- n things went from q, which is r afterwards, to the front of out, which is new afterwards
   pub record Drained (n : ℕ) (q r : Queue X) (out new : List X) : Type 0 where
     pub counts : count_of q ≡ n + count_of r
     pub holds : IsPermutation (things_of q) (take n new ++ things_of r)
-    pub room : length (slots_of r) ≡ length (slots_of q)
-    pub behind : drop (count_of q) (slots_of r) ≡ drop (count_of q) (slots_of q)
-    pub keeps : Keeps precedes q r
-    pub lent : loan_of r ≡ loan_of q
     pub as_long : length new ≡ length out
     pub rest : drop n new ≡ drop n out
+
+  -- from q to r, the loan and the number of slots stay, and so do the slots from n on, and this order, if q stands in it
+  pub record Stays (precedes : X → X → Bool) (n : ℕ) (q r : Queue X) : Type 0 where
+    pub room : length (slots_of r) ≡ length (slots_of q)
+    pub behind : drop n (slots_of r) ≡ drop n (slots_of q)
+    pub keeps : Ordered precedes q → Ordered precedes r
+    pub lent : loan_of r ≡ loan_of q

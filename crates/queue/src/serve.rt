@@ -25,7 +25,7 @@ impl<T: Copy> Queue<'_, T> {
         ensures puts { OnOk result (OneMore thing self.old self.new) }
         ensures full { OnErr result (count_of self.old ≡ length (slots_of self.old)) }
         ensures unchanged { OnErr result (self.new ≡ self.old) }
-        ensures stays { Stays (O.precedes order.now) self.old self.new }
+        ensures stays { Stays (O.precedes order.now) (count_of self.new) self.old self.new }
     {
         let count = self.count;
         if count == self.slots.len() {
@@ -42,7 +42,7 @@ impl<T: Copy> Queue<'_, T> {
         ensures empty { IfNone result (count_of self.old ≡ 0) }
         ensures unchanged { IfNone result (self.new ≡ self.old) }
         ensures first { Ordered (O.precedes order.now) self.old → IfSome result (Unpreceded (O.precedes order.now) (things_of self.old)) }
-        ensures stays { Stays (O.precedes order.now) self.old self.new }
+        ensures stays { Stays (O.precedes order.now) (count_of self.new) self.old self.new }
     {
         if self.is_empty() {
             return None;
@@ -56,7 +56,7 @@ impl<T: Copy> Queue<'_, T> {
         requires { 0 < count_of self.old }
         ensures takes { OneMore result self.new self.old }
         ensures first { Ordered (O.precedes order.now) self.old → Unpreceded (O.precedes order.now) (things_of self.old) result }
-        ensures stays { Stays (O.precedes order.now) self.old self.new }
+        ensures stays { Stays (O.precedes order.now) (count_of self.new) self.old self.new }
     {
         let left = self.count - 1;
         let first = self.slots[0];

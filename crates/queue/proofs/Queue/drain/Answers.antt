@@ -2,7 +2,7 @@ use Rattle.std.proofs.Common.{take, arith}
 use Rattle.std.proofs.lemmas.List.{take_more_set}
 use Rattle.std.proofs.lemmas.List.Sorted.{IsPermutation-sym}
 use Rattle.queue.specs.Queues.{things_of}
-use Rattle.queue.proofs.Drains.{drained_more, served_more}
+use Rattle.queue.proofs.Drains.{drained_more, stays_on, served_more}
 use Rattle.queue.proofs.Queue.drain.Goals as goal
 
 pub loop-slot-preserved : goal.loop-slot-preserved
@@ -14,7 +14,8 @@ loop-slot-preserved g c =
     let x = c.take_first.result in
     let s = c.take_first.new.self in
     record {
-      drains = drained_more pre i c.args.self.now l.self s _ l.slot-items x c.loop-slot-test.true taken.takes taken.stays l.invariant.drains;
+      drains = drained_more i c.args.self.now l.self s _ l.slot-items x c.loop-slot-test.true taken.takes l.invariant.drains;
+      stays = stays_on pre _ _ c.args.self.now l.self s (omega (arith, taken.takes.counts, l.invariant.drains.counts)) l.invariant.stays taken.stays;
       served = λ h. rw (take_more_set l.slot-items i x (omega arith))
-          (served_more pre (take i l.slot-items) (things_of l.self) (things_of s) x (IsPermutation-sym _ _ taken.takes.holds) (taken.first (l.invariant.drains.keeps h)) (l.invariant.served h));
+          (served_more pre (take i l.slot-items) (things_of l.self) (things_of s) x (IsPermutation-sym _ _ taken.takes.holds) (taken.first (l.invariant.stays.keeps h)) (l.invariant.served h));
     }
