@@ -8,7 +8,7 @@ use Rattle.std.proofs.lemmas.List.{length-append}
 use Rattle.std.proofs.lemmas.Bool.{cases_Bool, cond-true, cond-false}
 use Rattle.refusal.specs.declared.Refusal.{Refusal}
 use Rattle.refusal.specs.declared.Layer.{Layer}
-use Rattle.refusal.specs.declared.Layer.TheVariants.{File, Set, Placement, Running}
+use Rattle.refusal.specs.declared.Layer.TheVariants.{File, Set, Placement, Running, Calendar, Agenda}
 use Rattle.refusal.specs.Refusals.{number_of, word_of, refusal_words}
 use Rattle.set.proofs.Weights.{weighs}
 use Rattle.plan.specs.declared.pieces.Pieces.{Pieces}
@@ -38,6 +38,8 @@ word_most File = omega arith
 word_most Set = omega arith
 word_most Placement = omega arith
 word_most Running = omega arith
+word_most Calendar = omega arith
+word_most Agenda = omega arith
 
 append_most : (s t : List ℕ) (a b : ℕ) → length s ≤ a → length t ≤ b → length (s ++ t) ≤ a + b
 append_most s t a b h k = omega (arith, length-append s t)

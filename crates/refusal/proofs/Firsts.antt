@@ -1,5 +1,5 @@
 -- The first complaint about things in a row.
-use Rattle.std.proofs.Common.{◌≡◌, ℕ, zero, suc, ◌+◌, ◌<◌, ◌≤◌, Bool, true, false, ◌⊎◌, Some, None, Option, refl, inl, inr, ⊎_elim, add-one, arith}
+use Rattle.std.proofs.Common.{◌≡◌, ℕ, zero, suc, ◌+◌, ◌<◌, ◌≤◌, Bool, true, false, ◌⊎◌, Some, None, Option, refl, inl, inr, ⊎_elim, ◌∙◌, add-one, arith}
 use Rattle.std.proofs.lemmas.Bool.{cases_order, cases_eq}
 use Rattle.refusal.specs.Refusals.{Complaint, check, or_else, first_below}
 
@@ -21,6 +21,11 @@ failed false c x after e = e
 -- there is a complaint or there is none
 pub not_both : (a : Option Complaint) (x : Complaint) → a ≡ Some x → a ≡ None → ⊥
 not_both a x some none = let z : ◌≡◌ {A = ℕ} 0 1 = cc in omega arith
+
+-- a complaint is the one that the test has
+pub said : (test : Bool) (c x : Complaint) → check test c None ≡ Some x → c ≡ x
+said true c x h = absurd (not_both None x h refl)
+said false c x h = cc
 
 at_or_below : (i n : ℕ) → i < suc n → (i ≡ n) ⊎ (i < n)
 at_or_below i n h = ⊎_elim inl (⊎_elim inr (λ (b : n < i). absurd (omega arith))) (cases_order i n)
@@ -58,3 +63,11 @@ module _ (about : ℕ → Option Complaint) where
   pub none_of : (n : ℕ) → ((i : ℕ) → i < n → about i ≡ None) → first_below about n ≡ None
   none_of zero each = refl
   none_of (suc n) each = rw (none_of n (λ i h. each i (omega arith))) (each n (omega arith))
+
+  -- the first complaint is about one of the things, and there is none about those before it
+  pub first_is : (n : ℕ) (c : Complaint) → first_below about n ≡ Some c → (k : ℕ) × (k < n) × (about k ≡ Some c) × (first_below about k ≡ None)
+  first_is zero c h = absurd (not_both None c h refl)
+  first_is (suc n) c h = elim (first_below about n) as (λ (o : Option Complaint). first_below about n ≡ o → or_else o (about n) ≡ Some c → (k : ℕ) × (k < suc n) × (about k ≡ Some c) × (first_below about k ≡ None)) [
+    | None ↦ λ e here. (n, omega arith, here, e)
+    | Some d ↦ λ e here. let k = first_is n c (e ∙ here) in (k.0, omega arith, k.2, k.3)
+  ] refl h

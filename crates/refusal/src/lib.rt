@@ -26,6 +26,12 @@ pub enum Fault {
     Full = 7,
     /// lent memory is too small
     Memory = 10,
+    /// an entry of a list does not fit behind those before it
+    Misfit = 14,
+    /// a span ends before it begins, or goes past the last tick
+    Span = 15,
+    /// a span has more dates than the table has entries
+    Crowded = 16,
 }
 
 impl Fault {
@@ -55,6 +61,8 @@ pub enum Layer {
     Set,
     Placement,
     Running,
+    Calendar,
+    Agenda,
 }
 
 impl Layer {
@@ -67,6 +75,8 @@ impl Layer {
             Layer::Set => "set",
             Layer::Placement => "placement",
             Layer::Running => "running",
+            Layer::Calendar => "calendar",
+            Layer::Agenda => "agenda",
         }
     }
 }
@@ -82,6 +92,8 @@ impl fmt::Display for Layer {
 /// Memory that a caller lends, with the place that stands for it where it is too small.
 #[derive(Clone, Copy, Debug, PartialEq, Eq, Hash)]
 pub enum Lent {
+    /// for the queue that a call merges by
+    Scratch = 2,
     /// for a text
     Text = 3,
 }
