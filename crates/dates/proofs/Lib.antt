@@ -1,0 +1,10 @@
+pub mod Phases
+pub mod Delays
+pub mod Closures
+pub mod Lists
+pub mod Checks
+pub mod Finds
+pub mod Ends
+pub mod InOrder
+pub mod Agendas
+pub mod Multiples
