@@ -10,7 +10,8 @@ use Rattle.queue.specs.Queues.{count_of, slots_of, OneMore, Stays, Drained}
 use Rattle.queue.specs.declared.Queue.{Queue}
 
 module _ {X : Type 0} where
-  drop_later : (xs ys : List X) (c m : ℕ) → c ≤ m → drop c xs ≡ drop c ys → drop m xs ≡ drop m ys
+  -- lists that agree behind one place agree behind a later one
+  pub drop_later : (xs ys : List X) (c m : ℕ) → c ≤ m → drop c xs ≡ drop c ys → drop m xs ≡ drop m ys
   drop_later xs ys c m h e =
       let is : c + (m - c) ≡ m = omega arith in
       cc (drop-drop (m - c) c xs, drop-drop (m - c) c ys)
