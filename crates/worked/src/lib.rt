@@ -2,11 +2,15 @@
 #![tactic(auto)]
 
 #[cfg(test)]
+mod agendas;
+#[cfg(test)]
 mod costs;
 #[cfg(test)]
 mod figures;
 #[cfg(test)]
 mod files;
+#[cfg(test)]
+mod piles;
 #[cfg(test)]
 mod plans;
 #[cfg(test)]
