@@ -128,6 +128,16 @@ def answer_of(line):
     return "".join(f"{answer};" for answer in answers) + "\n"
 
 
+def checksum_of(end, phases):
+    """What the program `timed` answers: the number of all dates before a tick, and a checksum of them in their order."""
+    numbered = enumerate(phases, start=1)
+    dates = sorted((tick, model) for model, (first, period) in numbered for tick in range(first, end, period))
+    checksum = 0
+    for tick, model in dates:
+        checksum = (checksum * 0x9E3779B97F4A7C15 + (tick << 32 | model)) % 2**64
+    return f"{len(dates)} {checksum}\n"
+
+
 if __name__ == "__main__":
     for text in sys.stdin:
         sys.stdout.write(answer_of(text))

@@ -1,14 +1,16 @@
 """Writes what the programs are run on in the gate, and what they must print.
 
 crates/cases has many set files in hexadecimal; crates/print has one that goes on for a megabyte; crates/served has
-lists of calls on queues; crates/dated has calendars that are asked. Run it at the repository's root. What is expected
+lists of calls on queues; crates/dated has calendars that are asked; crates/timed
+has agendas that tools/bench times. Run it at the repository's root. What is expected
 comes from tools/reference.py, tools/queue_reference.py and tools/calendar_reference.py, never from the proved programs.
 """
 import random
 import struct
 from itertools import product
 
-from calendar_reference import END, answer_of as calendar_answer_of
+from bench.jobs import JOBS, count_of, line_of
+from calendar_reference import END, answer_of as calendar_answer_of, checksum_of
 from queue_reference import KEYS, answer_of
 from reference import text_of
 
@@ -254,6 +256,11 @@ def main():
         stdin.writelines(line + "\n" for line in lines)
     with open("crates/dated/stdout", "w") as stdout:
         stdout.writelines(map(calendar_answer_of, lines))
+    jobs = [(end, phases) for _, end, phases in JOBS if count_of(end, phases) < 5_000]
+    with open("crates/timed/stdin", "w") as stdin:
+        stdin.writelines(line_of(*job) + "\n" for job in jobs)
+    with open("crates/timed/stdout", "w") as stdout:
+        stdout.writelines(checksum_of(*job) for job in jobs)
 
 
 if __name__ == "__main__":
