@@ -8,7 +8,7 @@ use Rattle.std.proofs.lemmas.List.{length-append}
 use Rattle.std.proofs.lemmas.Bool.{cases_Bool, cond-true, cond-false}
 use Rattle.refusal.specs.declared.Refusal.{Refusal}
 use Rattle.refusal.specs.declared.Layer.{Layer}
-use Rattle.refusal.specs.declared.Layer.TheVariants.{File, Set, Placement, Running, Calendar, Agenda}
+use Rattle.refusal.specs.declared.Layer.TheVariants.{File, Set, Placement, Opening, Running, Calendar, Agenda}
 use Rattle.refusal.specs.Refusals.{number_of, word_of, refusal_words}
 use Rattle.set.proofs.Weights.{weighs}
 use Rattle.plan.specs.declared.pieces.Pieces.{Pieces}
@@ -37,6 +37,7 @@ word_most : (l : Layer) → length (word_of l) ≤ 9
 word_most File = omega arith
 word_most Set = omega arith
 word_most Placement = omega arith
+word_most Opening = omega arith
 word_most Running = omega arith
 word_most Calendar = omega arith
 word_most Agenda = omega arith

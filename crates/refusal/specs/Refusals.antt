@@ -1,11 +1,11 @@
 -- The number of each fault, the word of each layer, and what a refusal says.
 use Rattle.std.specs.Prelude.{◌≡◌, ℕ, zero, suc, Bool, cond, List, ◌++◌, Some, None, Ok, Err, codes, decimal, Option, Result}
 use Rattle.refusal.specs.declared.Fault.{Fault}
-use Rattle.refusal.specs.declared.Fault.TheVariants.{Short, Long, Size, Period, Cost, Heavy, Full, Memory, Misfit, Span, Crowded}
+use Rattle.refusal.specs.declared.Fault.TheVariants.{Short, Long, Size, Period, Cost, Heavy, Full, Spacing, Group, Memory, Model, Moment, Withdrawn, Misfit, Span, Crowded}
 use Rattle.refusal.specs.declared.Layer.{Layer}
-use Rattle.refusal.specs.declared.Layer.TheVariants.{File, Set, Placement, Running, Calendar, Agenda}
+use Rattle.refusal.specs.declared.Layer.TheVariants.{File, Set, Placement, Opening, Running, Calendar, Agenda}
 use Rattle.refusal.specs.declared.Lent.{Lent}
-use Rattle.refusal.specs.declared.Lent.TheVariants.{Scratch, Text}
+use Rattle.refusal.specs.declared.Lent.TheVariants.{Sheet, Scratch, Text}
 use Rattle.refusal.specs.declared.Refusal.{Refusal}
 
 abbrev pub number_of : Fault → ℕ
@@ -16,7 +16,12 @@ number_of Period = 4
 number_of Cost = 5
 number_of Heavy = 6
 number_of Full = 7
+number_of Spacing = 8
+number_of Group = 9
 number_of Memory = 10
+number_of Model = 11
+number_of Moment = 12
+number_of Withdrawn = 13
 number_of Misfit = 14
 number_of Span = 15
 number_of Crowded = 16
@@ -25,11 +30,13 @@ abbrev pub word_of : Layer → List ℕ
 word_of File = codes "file"
 word_of Set = codes "set"
 word_of Placement = codes "placement"
+word_of Opening = codes "opening"
 word_of Running = codes "running"
 word_of Calendar = codes "calendar"
 word_of Agenda = codes "agenda"
 
 abbrev pub place_of_lent : Lent → ℕ
+place_of_lent Sheet = 1
 place_of_lent Scratch = 2
 place_of_lent Text = 3
 

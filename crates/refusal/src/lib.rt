@@ -24,8 +24,18 @@ pub enum Fault {
     Heavy = 6,
     /// the last worker has no room for a light model
     Full = 7,
+    /// a calendar lets dates of a model lie nearer than its period
+    Spacing = 8,
+    /// there is no such group
+    Group = 9,
     /// lent memory is too small
     Memory = 10,
+    /// there is no such model
+    Model = 11,
+    /// a group has no later moment
+    Moment = 12,
+    /// the model is withdrawn already
+    Withdrawn = 13,
     /// an entry of a list does not fit behind those before it
     Misfit = 14,
     /// a span ends before it begins, or goes past the last tick
@@ -60,6 +70,7 @@ pub enum Layer {
     File,
     Set,
     Placement,
+    Opening,
     Running,
     Calendar,
     Agenda,
@@ -74,6 +85,7 @@ impl Layer {
             Layer::File => "file",
             Layer::Set => "set",
             Layer::Placement => "placement",
+            Layer::Opening => "opening",
             Layer::Running => "running",
             Layer::Calendar => "calendar",
             Layer::Agenda => "agenda",
@@ -92,7 +104,9 @@ impl fmt::Display for Layer {
 /// Memory that a caller lends, with the place that stands for it where it is too small.
 #[derive(Clone, Copy, Debug, PartialEq, Eq, Hash)]
 pub enum Lent {
-    /// for the queue that a call merges by
+    /// for the words of a sheet
+    Sheet = 1,
+    /// for a queue
     Scratch = 2,
     /// for a text
     Text = 3,
