@@ -3,6 +3,7 @@ pub mod Delays
 pub mod Closures
 pub mod Lists
 pub mod Checks
+pub mod Earliest
 pub mod Finds
 pub mod Ends
 pub mod InOrder

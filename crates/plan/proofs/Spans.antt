@@ -1,5 +1,5 @@
 -- The groups of workers, by division.
-use Rattle.std.proofs.Common.{◌≡◌, ℕ, ◌+◌, ◌-◌, ◌*◌, ◌/◌, ◌%◌, ◌<◌, ◌≤◌, min, leb, ◌⊎◌, ap, ⊎_elim, mul-le-mul_right, mod-lt, add-mul, pos_of_ne-zero, one-mul, div-add-mod', le-div_iff_mul-le, div-mul-le_self, arith}
+use Rattle.std.proofs.Common.{◌≡◌, ℕ, ◌+◌, ◌-◌, ◌*◌, ◌/◌, ◌%◌, ◌<◌, ◌≤◌, min, leb, ◌⊎◌, inl, inr, refl, ap, ⊎_elim, mul-le-mul_right, mod-lt, add-mul, pos_of_ne-zero, one-mul, div-add-mod', le-div_iff_mul-le, div-mul-le_self, arith}
 use Rattle.std.proofs.Math.Nat.{div-eq_of_lt-le, lt-div-mul-add}
 use Rattle.std.proofs.lemmas.Bool.{cond-true, cond-false, le-leb, lt-leb, cases_lt}
 use Rattle.plan.specs.Groups.{group_of, Group, NoGroup, Counts}
@@ -75,6 +75,25 @@ module _ (alone k : ℕ) (some : 1 ≤ k) where
         inside = λ p h h'. group_inside g p high h (omega arith);
         only = λ p h h' e'. let r = group_only g p high e' in (r.0, omega (arith, r.1));
       }
+
+  group_alone : (m g : ℕ) → 1 ≤ m → 1 ≤ g → g ≤ alone → g ≤ group_of alone k m → Group (group_of alone k) m g g g
+  group_alone m g some-m from_one low top = record {
+    from_one = from_one;
+    some = omega arith;
+    within = low_within m g low top;
+    inside = λ p h h'. let e : p ≡ g = omega arith in rw e (group_low g low);
+    only = λ p h h' e. elim (cases_lt alone p) [
+      | inl high ↦ absurd (omega (arith, group_high p high))
+      | inr le ↦ let same = group_low p le in (omega arith, omega arith)
+    ];
+  }
+
+  -- so there is a group of each number from 1 up to that of the last worker
+  pub every_group : (m g : ℕ) → 1 ≤ m → 1 ≤ g → g ≤ group_of alone k m → (first : ℕ) × ((last : ℕ) × Group (group_of alone k) m g first last)
+  every_group m g some-m from_one top = elim (cases_lt alone g) [
+    | inl high ↦ (_, (_, group_among m g _ high top refl))
+    | inr low ↦ (g, (g, group_alone m g some-m from_one low top))
+  ]
 
   -- two neighbours are in one group, unless the group ends with the first of them
   pub group_next : (p : ℕ) → alone < p → ((p - alone) % k ≡ 0 → ⊥) → group_of alone k p ≡ group_of alone k (p + 1)

@@ -24,7 +24,7 @@ same_sizes s t models workers group grain i = record {
   small_grain = is_prop→PathP (λ j. grain j ≤ 100800) (λ _. Prim.hlevel props) s.small_grain t.small_grain i;
 }
 
-same_models : (ms ns : List Model) → map (λ (m : Model). m.cost) ms ≡ map (λ (m : Model). m.cost) ns → map (λ (m : Model). m.period) ms ≡ map (λ (m : Model). m.period) ns → ms ≡ ns
+pub same_models : (ms ns : List Model) → map (λ (m : Model). m.cost) ms ≡ map (λ (m : Model). m.cost) ns → map (λ (m : Model). m.period) ms ≡ map (λ (m : Model). m.period) ns → ms ≡ ns
 same_models [] [] costs periods = refl
 same_models [] (n ∷ ns) costs periods = let z : ◌≡◌ {A = ℕ} 0 1 = cc in absurd (omega arith)
 same_models (m ∷ ms) [] costs periods = let z : ◌≡◌ {A = ℕ} 0 1 = cc in absurd (omega arith)
