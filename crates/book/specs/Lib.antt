@@ -1,0 +1,7 @@
+pub mod Sums
+pub mod Racks
+pub mod Sheets
+pub mod Books
+pub mod Turns
+pub mod Calls
+pub mod Laws
