@@ -1,0 +1,10 @@
+pub mod Written
+pub mod Placings
+pub mod Racks
+pub mod Rows
+pub mod Rosters
+pub mod Three
+pub mod One
+pub mod Four
+pub mod Two
+pub mod Full
