@@ -25,7 +25,7 @@ left_of gone = 0
 left_of waiting = 0
 left_of (live e l) = l
 
--- a phase once g parts more are given
+-- a state once g parts more are given
 abbrev pub after : ℕ → State → State
 after g gone = gone
 after g waiting = waiting

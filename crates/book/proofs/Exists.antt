@@ -70,10 +70,9 @@ module _ {rack : Rack} (ok : IsRack rack) (dates : ℕ → ℕ → Bool) (b : Bo
     -- the row of a worker
     one_row : (D p : ℕ) → 1 ≤ p → p ≤ rack.workers → (row : Row) × IsRow rack dates precedes b D p row
     one_row D p some last =
-        let made = some_row (rack.grain * D) rack.models (has rack dates precedes b D p)
+        some_row (rack.grain * D) rack.models (has rack dates precedes b D p)
         (λ i x h. (within_both 1 rack.models i (live_model ok dates b i (and_parts _ _ h).0)).1)
-        (λ i j x l m. one_holder ok dates b precedes D p order some last i j x) in
-        (made.0, record { tiles = made.1.tiles; says = made.1.says })
+        (λ i j x l m. one_holder ok dates b precedes D p order some last i j x)
 
     -- the rows of n workers
     some_rows : (D n p : ℕ) → 1 ≤ p → p + n ≤ rack.workers + 1 → (rows : List Row) × ((length rows ≡ n) × AreRows rack dates precedes b D p rows)

@@ -9,12 +9,14 @@ use Rattle.plan.specs.declared.plans.Plan.{Plan}
 use Rattle.standing.specs.declared.Standing.{Standing}
 use Rattle.book.specs.Racks.{Rack, rack_of, is_divided}
 use Rattle.book.specs.Sheets.{Sheet, workers_with, got}
-use Rattle.book.specs.Books.{Book, blank, is_model_of, group_with, present_of, in_use, date_of, is_live}
-use Rattle.book.specs.Calls.{Call, Advance, AskStanding, Answer, Advanced, Stands, Step, declines, advances, rests, withdraws, stands, Leads, ends, goes}
+use Rattle.book.specs.Books.{Book, entered, is_model_of, group_with, present_of, in_use, date_of, is_live}
+use Rattle.book.specs.Calls.{Call, Advance, AskStanding, Answer, Advanced, Stands, Step, advances, stands, Leads}
+use Rattle.book.specs.Turns.{IsNext}
 use Rattle.book.specs.Laws.{Lawful, Always, Reached, Remains, HasRun, FitsWords, FitsFields, FairShares, OneWorker, WholeRuns, Tells, StandingsTell, SheetsFit, StandingsFit}
 use Rattle.book.proofs.Sums.{between_none}
 use Rattle.book.proofs.Racks.{IsRack, rack_of-IsRack}
 use Rattle.book.proofs.Holders.{model_bounds, live_model}
+use Rattle.book.proofs.Keeps.{calls_keep}
 use Rattle.book.proofs.Exists.{moment_early}
 use Rattle.book.proofs.Given.{rows_give_divided}
 use Rattle.book.proofs.Lives.{KeepsApart, used_model, live_from}
@@ -43,46 +45,36 @@ module _ {plan : Plan} {dates : ℕ → ℕ → Bool} {spacings : ℕ → ℕ} {
   pub apart : KeepsApart rack dates
   apart = record { period_apart = λ i d e m l x y. omega (arith, lawful.calendar.apart i d e l x y, spacing_enough i m) }
 
-  sound_step : (b : Book) (call : Call) (answer : Answer) (c : Book) → Step rack dates precedes b call answer c → Sound rack dates b → Sound rack dates c
-  sound_step b _ _ _ (declines call complaint is) sound = sound
-  sound_step b _ _ _ (advances g words things s none next) sound = sound_entered ok apart lawful.order b g s next sound
-  sound_step b _ _ _ (rests g words things none last) sound = sound
-  sound_step b _ _ _ (withdraws i none) sound = sound_without ok apart b i sound
-  sound_step b _ _ _ (stands i none) sound = sound
-
-  sound_leads : (b : Book) (calls : List Call) (answers : List Answer) (e : Book) → Leads rack dates precedes b calls answers e → Sound rack dates b → Sound rack dates e
-  sound_leads _ _ _ _ (ends b) sound = sound
-  sound_leads _ _ _ _ (goes b c e call answer calls answers step rest) sound = sound_leads c calls answers e rest (sound_step b call answer c step sound)
-
   pub reached_sound : (b : Book) → Reached plan dates precedes b → Sound rack dates b
-  reached_sound b r = sound_leads blank r.calls r.answers b r.led (sound_blank ok apart)
+  reached_sound b r = calls_keep (Sound rack dates) (λ b g s next. sound_entered ok apart lawful.order b g s next) (λ b i. sound_without ok apart b i) r.led (sound_blank ok apart)
 
   pub used_of : (b : Book) (i : ℕ) → Remains plan dates precedes b i → IsTrue (in_use rack b i)
-  used_of b i stays = and_from _ _ (and_from _ _ (le-leb _ _ stays.from_one) (le-leb _ _ stays.to_last)) (ap not stays.kept)
+  used_of b i remains = and_from _ _ (and_from _ _ (le-leb _ _ remains.from_one) (le-leb _ _ remains.to_last)) (ap not remains.kept)
 
   -- a model that has a run is live, with the run's date
   pub run_live : (b : Book) (i d : ℕ) → HasRun plan dates precedes b i d → IsTrue (is_live rack dates b i) × (date_of rack dates b i ≡ d)
   run_live b i d run = live_from apart b i d (used_of b i run.remains) run.date run.begun run.goes
 
   -- what a model got up to a part that is over stays, whatever is called
-  got_stays_step : (i u v : ℕ) → IsTrue (is_model_of rack i) → (b : Book) (call : Call) (answer : Answer) (c : Book) → Step rack dates precedes b call answer c → v ≤ present_of rack b i * rack.grain
-      → (got rack.grain c.sheets i u v ≡ got rack.grain b.sheets i u v) × (present_of rack b i ≤ present_of rack c i)
-  got_stays_step i u v m b _ _ _ (declines call complaint is) past = (refl, omega arith)
-  got_stays_step i u v m b _ _ _ (advances g words things s none next) past = elim (cases_eq (group_with rack i) g) [
-    | inl here ↦
-        let now : present_of rack b i ≡ s.start = ap b.present here ∙ sym next.start' in
-        (got_before ok dates precedes b g s next i u v (rw now at past), omega (arith, now, present_here ok dates precedes b g s next i here, rises ok dates precedes b g s next))
-    | inr other ↦ (got_elsewhere ok dates precedes b g s next i u v (model_bounds ok i m).0 other, omega (arith, present_elsewhere ok dates precedes b g s next i other))
-  ]
-  got_stays_step i u v m b _ _ _ (rests g words things none last) past = (refl, omega arith)
-  got_stays_step i u v m b _ _ _ (withdraws j none) past = (refl, omega arith)
-  got_stays_step i u v m b _ _ _ (stands j none) past = (refl, omega arith)
+  module _ (i u v : ℕ) (m : IsTrue (is_model_of rack i)) (b : Book) where
+    record GotSame (c : Book) : Type 0 where
+      same : got rack.grain c.sheets i u v ≡ got rack.grain b.sheets i u v
+      over : v ≤ present_of rack c i * rack.grain
 
-  got_stays_leads : (i u v : ℕ) → IsTrue (is_model_of rack i) → (b : Book) (calls : List Call) (answers : List Answer) (e : Book) → Leads rack dates precedes b calls answers e → v ≤ present_of rack b i * rack.grain → got rack.grain e.sheets i u v ≡ got rack.grain b.sheets i u v
-  got_stays_leads i u v m _ _ _ _ (ends b) past = refl
-  got_stays_leads i u v m _ _ _ _ (goes b c e call answer calls answers step rest) past =
-      let one = got_stays_step i u v m b call answer c step past in
-      got_stays_leads i u v m c calls answers e rest (omega (arith, mul-le-mul_right rack.grain one.1)) ∙ one.0
+    got_same : (c : Book) (g : ℕ) (s : Sheet) → IsNext rack dates precedes c g s → GotSame c → GotSame (entered c s)
+    got_same c g s next held = elim (cases_eq (group_with rack i) g) [
+      | inl here ↦
+          let now : present_of rack c i ≡ s.start = ap c.present here ∙ sym next.start' in
+          let later : present_of rack c i ≤ present_of rack (entered c s) i = omega (arith, now, present_here ok dates precedes c g s next i here, rises ok dates precedes c g s next) in
+          record { same = got_before ok dates precedes c g s next i u v (rw now at held.over) ∙ held.same; over = omega (arith, held.over, mul-le-mul_right rack.grain later) }
+      | inr other ↦ record {
+        same = got_elsewhere ok dates precedes c g s next i u v (model_bounds ok i m).0 other ∙ held.same;
+        over = rw (present_elsewhere ok dates precedes c g s next i other) held.over;
+      }
+    ]
+
+    got_stays : (calls : List Call) (answers : List Answer) (e : Book) → Leads rack dates precedes b calls answers e → v ≤ present_of rack b i * rack.grain → got rack.grain e.sheets i u v ≡ got rack.grain b.sheets i u v
+    got_stays calls answers e led past = (calls_keep GotSame got_same (λ c j held. record { same = held.same; over = held.over }) led (record { same = refl; over = past })).same
 
   share : (b : Book) (g words things : ℕ) (s : Sheet) (c : Book) → Sound rack dates b → Step rack dates precedes b (Advance g words things) (Advanced s) c → (i : ℕ) → group_with rack i ≡ g → IsTrue (is_divided (rack.pieces i)) → IsTrue (is_live rack dates b i)
       → (got rack.grain c.sheets i (s.start * rack.grain) (s.end * rack.grain) ≡ rack.weight i * (s.end - s.start)) × (present_of rack c i ≡ s.end)
@@ -124,16 +116,16 @@ pub fair_shares : Always FairShares
 fair_shares plan dates spacings precedes lawful b c e reached g words things s step calls answers led i d here divided run =
     let alive = (run_live lawful b i d run).0 in
     let first = share lawful b g words things s c (reached_sound lawful b reached) step i here divided alive in
-    got_stays_leads lawful i _ _ (live_model (ok lawful) dates b i alive) c calls answers e led (omega (arith, ap (λ t. t * (rack_of plan).grain) first.1)) ∙ first.0
+    got_stays lawful i _ _ (live_model (ok lawful) dates b i alive) c calls answers e led (omega (arith, ap (λ t. t * (rack_of plan).grain) first.1)) ∙ first.0
 
 pub one_worker : Always OneWorker
 one_worker plan dates spacings precedes lawful b reached = (reached_sound lawful b reached).alone
 
 pub whole_runs : Always WholeRuns
-whole_runs plan dates spacings precedes lawful b c reached calls answers led i d stays date over =
-    let used = used_of lawful b i stays in
+whole_runs plan dates spacings precedes lawful b c reached calls answers led i d remains date over =
+    let used = used_of lawful b i remains in
     let model = used_model (rack_of plan) b i used in
-    got_stays_leads lawful i _ _ model b calls answers c led (mul-le-mul_right (rack_of plan).grain over) ∙ (reached_sound lawful b reached).full i d used date over
+    got_stays lawful i _ _ model b calls answers c led (mul-le-mul_right (rack_of plan).grain over) ∙ (reached_sound lawful b reached).full i d used date over
 
 pub standings_tell : Always StandingsTell
 standings_tell plan dates spacings precedes lawful b c reached i d run standing step = tells_at lawful b i d standing c (reached_sound lawful b reached) run step

@@ -7,12 +7,12 @@ use Rattle.dates.proofs.Earliest.{earliest_once}
 use Rattle.book.specs.Racks.{Rack}
 use Rattle.book.specs.Sheets.{Row, Sheet}
 use Rattle.book.specs.Books.{Book, entered, is_moment}
-use Rattle.book.specs.Turns.{IsRow, AreRows, IsNext, has}
+use Rattle.book.specs.Turns.{AreRows, IsNext, has}
 use Rattle.book.specs.Calls.{Call, Answer, Step, Leads}
 use Rattle.book.specs.Calls.Answer.{Advanced}
 use Rattle.book.specs.Calls.Step.{declines, advances, rests, withdraws, stands}
 use Rattle.book.specs.Calls.Leads.{ends, goes}
-use Rattle.book.proofs.Rows.{Says, same_row}
+use Rattle.book.proofs.Rows.{same_row}
 
 -- a group has one first worker and one last
 group_once : (group : ℕ → ℕ) (m g first last first' last' : ℕ) → Group group m g first last → Group group m g first' last' → (first ≡ first') × (last ≡ last')
@@ -25,17 +25,13 @@ group_once group m g first last first' last' h k =
 
 module _ (rack : Rack) (dates : ℕ → ℕ → Bool) (precedes : Run → Run → Bool) where
   module _ (b : Book) where
-    -- a row says who has the worker
-    says_of : (D p : ℕ) (row : Row) → IsRow rack dates precedes b D p row → Says (rack.grain * D) (has rack dates precedes b D p) row
-    says_of D p row r = record { tiles = r.tiles; says = r.says }
-
     -- as many workers have one list of rows at most
     rows_once : (D p : ℕ) (rows rows' : List Row) → length rows ≡ length rows' → AreRows rack dates precedes b D p rows → AreRows rack dates precedes b D p rows' → rows ≡ rows'
     rows_once D p [] [] e h k = refl
     rows_once D p [] (row' ∷ rows') e h k = absurd (omega arith)
     rows_once D p (row ∷ rows) [] e h k = absurd (omega arith)
     rows_once D p (row ∷ rows) (row' ∷ rows') e h k = λ i.
-        same_row (rack.grain * D) (has rack dates precedes b D p) row row' (says_of D p row h.0) (says_of D p row' k.0) i
+        same_row (rack.grain * D) (has rack dates precedes b D p) row row' h.0 k.0 i
         ∷ rows_once D (p + 1) rows rows' (omega arith) h.1 k.1 i
 
     -- a group has one next sheet at most

@@ -8,7 +8,7 @@ use Rattle.std.proofs.lemmas.Bool.Decides.{nat_tests}
 use Rattle.std.proofs.lemmas.List.{length-map}
 use Rattle.std.proofs.lemmas.List.Elements.{All-nil, All-cons, All-head, All-tail, All-append, All-map, All-weaker}
 use Rattle.book.specs.Sums.{total, latest}
-use Rattle.book.specs.Sheets.{Span, Row, Sheet, holder, Tiles, words_of}
+use Rattle.book.specs.Sheets.{Span, Row, Sheet, holder, Tiles, words_of, Says}
 use Rattle.book.proofs.Sums.{latest_is, total_le, total_none, at_le_total, total_at_most_one, total_swap}
 
 -- the first span has the parts before its end, and the others have the rest
@@ -72,11 +72,6 @@ same_holders from to (a ∷ r) (b ∷ s) t u same =
     let e : b.end ≡ a.end = omega (arith, not_before from to a b r s f g same model, not_before from to b a s r g f (λ x l m. sym (same x l m)) (sym model)) in
     let others : r ≡ s = same_holders a.end to r s f.rest (rw e at g.rest) (λ x l m. sym (holder_past a r x l) ∙ same x (omega (arith, f.long)) m ∙ holder_past b s x (omega arith)) in
     λ i. record { end = sym e i; model = model i } ∷ others i
-
--- the row says who has the worker, where `has i x` tests whether model i has it at part x
-pub record Says (len : ℕ) (has : ℕ → ℕ → Bool) (row : Row) : Type 0 where
-  pub tiles : Tiles 0 len row
-  pub says : (i x : ℕ) → 1 ≤ i → x < len → (holder row x == i) ≡ has i x
 
 -- two numbers are equal if the tests for models cannot tell them apart
 same_by_tests : (a b : ℕ) → ((i : ℕ) → 1 ≤ i → (a == i) ≡ (b == i)) → a ≡ b

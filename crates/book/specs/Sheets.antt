@@ -1,5 +1,5 @@
 -- Sheets: who has each worker of a group, through one interval.
-use Rattle.std.specs.Prelude.{◌≡◌, ◌≢◌, ℕ, ◌+◌, ◌-◌, ◌*◌, ◌<◌, if◌then◌else◌, ◌&&◌, List, [], ◌∷◌, ◌++◌, length, map, nat_lt, nat_le, ◌==◌}
+use Rattle.std.specs.Prelude.{◌≡◌, ◌≢◌, ℕ, ◌+◌, ◌-◌, ◌*◌, ◌<◌, ◌≤◌, Bool, if◌then◌else◌, ◌&&◌, List, [], ◌∷◌, ◌++◌, length, map, nat_lt, nat_le, ◌==◌}
 use Rattle.std.specs.List.{flat_map}
 use Rattle.book.specs.Sums.{between}
 
@@ -30,6 +30,11 @@ abbrev pub Tiles : ℕ → ℕ → Row → Type 0
 Tiles from to [] = from ≡ to
 Tiles from to (span ∷ []) = (from < span.end) × (span.end ≡ to)
 Tiles from to (span ∷ (next ∷ row)) = (from < span.end) × (span.model ≢ next.model) × Tiles span.end to (next ∷ row)
+
+-- a row says who has a worker at each of so many parts, in the fewest spans; `has i x` tells whether model i has it at part x
+pub record Says (len : ℕ) (has : ℕ → ℕ → Bool) (row : Row) : Type 0 where
+  pub tiles : Tiles 0 len row
+  pub says : (i x : ℕ) → 1 ≤ i → x < len → (holder row x == i) ≡ has i x
 
 -- how many workers have model i at part x of the interval
 abbrev pub rows_with : List Row → ℕ → ℕ → ℕ

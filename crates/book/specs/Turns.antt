@@ -1,12 +1,12 @@
 -- The rule of a sheet: who has a worker at each part of an interval.
-use Rattle.std.specs.Prelude.{◌≡◌, ℕ, ◌+◌, ◌-◌, ◌*◌, ◌<◌, ◌≤◌, Bool, if◌then◌else◌, not, ◌&&◌, ◌||◌, List, [], ◌∷◌, length, nat_lt, nat_le, ◌==◌}
+use Rattle.std.specs.Prelude.{◌≡◌, ℕ, ◌+◌, ◌-◌, ◌*◌, Bool, if◌then◌else◌, not, ◌&&◌, ◌||◌, List, [], ◌∷◌, length, nat_lt, nat_le}
 use Rattle.kinds.specs.declared.runs.Run.{Run}
 use Rattle.plan.specs.declared.pieces.Pieces.{Pieces}
 use Rattle.plan.specs.Groups.{Group}
 use Rattle.dates.specs.Dates.{Earliest}
 use Rattle.book.specs.Sums.{up_to}
 use Rattle.book.specs.Racks.{Rack, whole_on, first_on, second_on}
-use Rattle.book.specs.Sheets.{Row, Sheet, holder, Tiles}
+use Rattle.book.specs.Sheets.{Row, Sheet, Says}
 use Rattle.book.specs.Books.{Book, is_live, left, run_of, is_moment}
 
 -- the size of a piece that comes first on worker p, and of one that comes last: a mirror swaps the two
@@ -64,10 +64,9 @@ module _ (rack : Rack) (dates : ℕ → ℕ → Bool) (precedes : Run → Run �
     abbrev pub has : ℕ → ℕ → Bool
     has i x = is_live rack dates b i && (in_head i x || in_tail i x || in_turn i x)
 
-    -- the row says who has the worker at each part, in the fewest spans
-    pub record IsRow (row : Row) : Type 0 where
-      pub tiles : Tiles 0 (rack.grain * D) row
-      pub says : (i x : ℕ) → 1 ≤ i → x < rack.grain * D → (holder row x == i) ≡ has i x
+    -- the row of this worker
+    abbrev pub IsRow : Row → Type 0
+    IsRow = Says (rack.grain * D) has
 
   -- the rows of the workers from p on
   abbrev pub AreRows : ℕ → ℕ → List Row → Type 0

@@ -14,7 +14,6 @@ use Rattle.book.specs.Calls.{Call, Answer, Leads}
 use Rattle.shown.specs.Examples.{first_sheet}
 use Rattle.shown.specs.Further.{Plays, GivesFour, phases_of_four, other_sheet}
 use Rattle.shown.proofs.Racks.{rack_by, gives}
-use Rattle.shown.proofs.Rows.{is_row}
 use Rattle.shown.proofs.Rosters.{plays, is_next}
 
 -- where the models are
@@ -43,8 +42,8 @@ plays_four leads =
     (plays rack phases_of_four precedes (by_keys-OrderLaws keys_by_model 1) refl leads)
 
 pub other_next : IsNext rack dates precedes blank 2 other_sheet
-other_next = is_next refl refl (omega arith) refl refl (is_row (omega arith) refl refl, tt)
+other_next = is_next refl refl (omega arith) refl refl refl
 
 -- after it, the first advance of group 1
 pub ours_next : IsNext rack dates precedes (entered blank other_sheet) 1 first_sheet
-ours_next = is_next refl refl (omega arith) refl refl (is_row (omega arith) refl refl, (is_row (omega arith) refl refl, tt))
+ours_next = is_next refl refl (omega arith) refl refl refl

@@ -13,7 +13,6 @@ use Rattle.book.specs.Turns.{IsNext}
 use Rattle.book.specs.Calls.{Call, Answer, Leads}
 use Rattle.shown.specs.Further.{Plays, GivesFull, phases_of_full, pieces_sheet}
 use Rattle.shown.proofs.Racks.{rack_by, gives}
-use Rattle.shown.proofs.Rows.{is_row}
 use Rattle.shown.proofs.Rosters.{plays, is_next}
 
 -- where the models are
@@ -42,4 +41,4 @@ plays_full leads =
     (plays rack phases_of_full precedes (by_keys-OrderLaws keys_by_model 1) refl leads)
 
 pub pieces_next : IsNext rack dates precedes blank 1 pieces_sheet
-pieces_next = is_next refl refl (omega arith) refl refl (is_row (omega arith) refl refl, (is_row (omega arith) refl refl, tt))
+pieces_next = is_next refl refl (omega arith) refl refl refl

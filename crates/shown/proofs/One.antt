@@ -13,7 +13,6 @@ use Rattle.book.specs.Turns.{IsNext}
 use Rattle.book.specs.Calls.{Call, Answer, Leads}
 use Rattle.shown.specs.Further.{Plays, GivesOne, phases_of_one, short_sheet, long_sheet, swapped_sheet, own_keys}
 use Rattle.shown.proofs.Racks.{rack_by, gives}
-use Rattle.shown.proofs.Rows.{is_row}
 use Rattle.shown.proofs.Rosters.{plays, is_next}
 
 -- where the three models are
@@ -40,16 +39,16 @@ plays_one precedes laws leads =
 
 -- ties go by model number
 pub short_next : IsNext rack dates (by_keys keys_by_model) blank 1 short_sheet
-short_next = is_next refl refl (omega arith) refl refl (is_row (omega arith) refl refl, tt)
+short_next = is_next refl refl (omega arith) refl refl refl
 
 -- after it
 pub long_next : IsNext rack dates (by_keys keys_by_model) (entered blank short_sheet) 1 long_sheet
-long_next = is_next refl refl (omega arith) refl refl (is_row (omega arith) refl refl, tt)
+long_next = is_next refl refl (omega arith) refl refl refl
 
 -- ties go by fewer remaining parts
 pub fewer_next : IsNext rack dates (by_keys keys_by_remaining) blank 1 swapped_sheet
-fewer_next = is_next refl refl (omega arith) refl refl (is_row (omega arith) refl refl, tt)
+fewer_next = is_next refl refl (omega arith) refl refl refl
 
 -- at equal deadlines model 3 precedes all others
 pub own_next : IsNext rack dates (by_keys own_keys) blank 1 swapped_sheet
-own_next = is_next refl refl (omega arith) refl refl (is_row (omega arith) refl refl, tt)
+own_next = is_next refl refl (omega arith) refl refl refl

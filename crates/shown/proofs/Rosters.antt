@@ -14,10 +14,11 @@ use Rattle.dates.proofs.Phases.{phase-CalendarLaws}
 use Rattle.book.specs.Racks.{Rack, rack_of}
 use Rattle.book.specs.Sheets.{Sheet}
 use Rattle.book.specs.Books.{Book, blank, is_moment}
-use Rattle.book.specs.Turns.{AreRows, IsNext}
+use Rattle.book.specs.Turns.{IsNext}
 use Rattle.book.specs.Calls.{Call, Answer, Step, Leads, goes, about_opening}
 use Rattle.book.specs.Laws.{Lawful}
 use Rattle.shown.specs.Further.{Plays}
+use Rattle.shown.proofs.Rows.{all_rows, are_rows}
 
 eq_self : (z : ℕ) → (z == z) ≡ true
 eq_self z = grind (arith, nat_tests)
@@ -87,7 +88,7 @@ module _ (rack : Rack) (dates : ℕ → ℕ → Bool) (b : Book) (g : ℕ) where
 
 module _ {rack : Rack} {dates : ℕ → ℕ → Bool} {precedes : Run → Run → Bool} where
   -- the next sheet of a group
-  pub is_next : {b : Book} {g : ℕ} {s : Sheet} → s.group ≡ g → s.start ≡ b.present g → s.start < s.end → turns_at rack dates b g s.end ≡ true → are_group rack.group rack.workers g s.first (s.first + length s.rows - 1) ≡ true → AreRows rack dates precedes b (s.end - s.start) s.first s.rows → IsNext rack dates precedes b g s
+  pub is_next : {b : Book} {g : ℕ} {s : Sheet} → s.group ≡ g → s.start ≡ b.present g → s.start < s.end → turns_at rack dates b g s.end ≡ true → are_group rack.group rack.workers g s.first (s.first + length s.rows - 1) ≡ true → all_rows rack dates precedes b (s.end - s.start) s.first s.rows ≡ true → IsNext rack dates precedes b g s
   is_next {b} {g} {s} group' start' later h all rows =
       let workers = is_group rack.group rack.workers g s.first (s.first + length s.rows - 1) all in
       record {
@@ -101,7 +102,7 @@ module _ {rack : Rack} {dates : ℕ → ℕ → Bool} {precedes : Run → Run �
         last = s.first + length s.rows - 1;
         workers = workers;
         all = omega (arith, workers.from_one);
-        rows' = rows;
+        rows' = are_rows rack dates precedes b (s.end - s.start) s.first s.rows rows;
       }
 
   -- a call, and whatever comes after it

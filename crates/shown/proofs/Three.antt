@@ -14,7 +14,6 @@ use Rattle.book.specs.Calls.{Call, Answer, Leads}
 use Rattle.shown.specs.Examples.{GivesThree, OpensThree, LeadsThree, phases_of_three, dates_of_three, first_sheet, second_sheet}
 use Rattle.shown.specs.Further.{PlaysThree, idle_sheet}
 use Rattle.shown.proofs.Racks.{rack_by, gives}
-use Rattle.shown.proofs.Rows.{is_row}
 use Rattle.shown.proofs.Rosters.{opens, plays, is_next}
 
 -- where the three models are
@@ -49,12 +48,12 @@ pub plays_three : {calls : List Call} {answers : List Answer} {end : Book} → L
 plays_three leads = gives_three _ (plays rack phases_of_three precedes (by_keys-OrderLaws keys_by_model 1) refl leads)
 
 pub first_next : IsNext rack dates_of_three precedes blank 1 first_sheet
-first_next = is_next refl refl (omega arith) refl refl (is_row (omega arith) refl refl, (is_row (omega arith) refl refl, tt))
+first_next = is_next refl refl (omega arith) refl refl refl
 
 -- after it
 pub second_next : IsNext rack dates_of_three precedes (entered blank first_sheet) 1 second_sheet
-second_next = is_next refl refl (omega arith) refl refl (is_row (omega arith) refl refl, (is_row (omega arith) refl refl, tt))
+second_next = is_next refl refl (omega arith) refl refl refl
 
 -- the same if model 2 is withdrawn between the two
 pub idle_next : IsNext rack dates_of_three precedes (without (entered blank first_sheet) 2) 1 idle_sheet
-idle_next = is_next refl refl (omega arith) refl refl (is_row (omega arith) refl refl, (is_row (omega arith) refl refl, tt))
+idle_next = is_next refl refl (omega arith) refl refl refl

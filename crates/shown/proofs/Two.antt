@@ -13,7 +13,6 @@ use Rattle.book.specs.Turns.{IsNext}
 use Rattle.book.specs.Calls.{Call, Answer, Leads}
 use Rattle.shown.specs.Further.{Plays, GivesTwo, phases_of_two, lone_sheet, joint_sheet}
 use Rattle.shown.proofs.Racks.{rack_by, gives}
-use Rattle.shown.proofs.Rows.{is_row}
 use Rattle.shown.proofs.Rosters.{plays, is_next}
 
 -- where the models are
@@ -42,8 +41,8 @@ plays_two leads =
     (plays rack phases_of_two precedes (by_keys-OrderLaws keys_by_remaining 2) refl leads)
 
 pub lone_next : IsNext rack dates precedes blank 1 lone_sheet
-lone_next = is_next refl refl (omega arith) refl refl (is_row (omega arith) refl refl, tt)
+lone_next = is_next refl refl (omega arith) refl refl refl
 
 -- after it
 pub joint_next : IsNext rack dates precedes (entered blank lone_sheet) 1 joint_sheet
-joint_next = is_next refl refl (omega arith) refl refl (is_row (omega arith) refl refl, tt)
+joint_next = is_next refl refl (omega arith) refl refl refl
