@@ -1,26 +1,18 @@
 -- Where intervals end.
-use Rattle.std.proofs.Common.{◌≡◌, ℕ, ◌+◌, ◌<◌, ◌⊎◌, Bool, true, false, ◌&&◌, ◌||◌, None, Some, inl, inr, refl, ap, sym, ◌∙◌, arith}
-use Rattle.std.specs.Bool.{IsTrue, nat_le, ◌==◌}
-use Rattle.std.proofs.lemmas.Bool.{cases_lt, both_ways, and_parts, and_from, or_cases, or_left, or_right, eqb-true, eq-eqb, ne_eqb, cond-true, cond-false, not-true}
-use Rattle.refusal.specs.Refusals.{Complaint, check}
+use Rattle.std.proofs.Common.{◌≡◌, ℕ, ◌+◌, ◌<◌, ◌⊎◌, ◌↔◌, Bool, ◌&&◌, ◌||◌, inl, inr, ap, sym, ◌∙◌, arith}
+use Rattle.std.specs.Bool.{IsTrue, ◌==◌}
+use Rattle.std.proofs.lemmas.Bool.{cases_lt, both_ways, and_parts, and_from, or_cases, or_left, or_right, eqb-true, eq-eqb, ne_eqb, cond-true, cond-false, not-true, false_from_ne_true}
 use Rattle.kinds.specs.declared.runs.Run.{Run}
 use Rattle.plan.specs.declared.plans.Plan.{Plan}
 use Rattle.book.specs.Racks.{Rack, rack_of}
-use Rattle.book.specs.Sheets.{Sheet}
-use Rattle.book.specs.Books.{Book, group_with, in_use, date_of, deadline_of, is_live, is_moment}
-use Rattle.book.specs.Calls.{Advance, Advanced, Refused, Step, declines, advances, rests, is_group, at_rest}
-use Rattle.book.specs.Laws.{Lawful, Always, Remains, HasRun, Due, Passes, EndsDue}
+use Rattle.book.specs.Sheets.{Sheet, HasLength}
+use Rattle.book.specs.Books.{Book, group_with, in_use, date_of, deadline_of, is_live, is_moment, AtRest}
+use Rattle.book.specs.Calls.{Advance, Advanced, Step, advances}
+use Rattle.book.specs.Laws.{Lawful, Always, Remains, HasRun, Due, Passes, EndsDue, GoesOn}
 use Rattle.book.proofs.Sums.{some_of_at, some_of_which}
 use Rattle.book.proofs.Racks.{within_both}
 use Rattle.book.proofs.Lives.{lives}
 use Rattle.book.proofs.Kept.{used_of, run_live}
-
--- none of three complaints is one with another number
-other_complaint : (a b c : Bool) (e f h x : Complaint) → (e.number ≡ x.number → ⊥) → (f.number ≡ x.number → ⊥) → (h.number ≡ x.number → ⊥) → check a e (check b f (check c h None)) ≡ Some x → ⊥
-other_complaint false b c e f h x p q r found = let same : e ≡ x = cc in p (ap (λ (y : Complaint). y.number) same)
-other_complaint true false c e f h x p q r found = let same : f ≡ x = cc in q (ap (λ (y : Complaint). y.number) same)
-other_complaint true true false e f h x p q r found = let same : h ≡ x = cc in r (ap (λ (y : Complaint). y.number) same)
-other_complaint true true true e f h x p q r found = absurd (cc)
 
 module _ {plan : Plan} {dates : ℕ → ℕ → Bool} {spacings : ℕ → ℕ} {precedes : Run → Run → Bool} (lawful : Lawful plan dates spacings precedes) (b : Book) where
   abbrev rack : Rack
@@ -74,11 +66,18 @@ module _ {plan : Plan} {dates : ℕ → ℕ → Bool} {spacings : ℕ → ℕ} {
     others = λ h other. cond-false (h == s.group) s.end (b.present h) (ne_eqb h s.group (λ e. other (e ∙ next.group')));
   }
 
-  rests_so : (g words things : ℕ) (x : Complaint) (c : Book) → Step rack dates precedes b (Advance g words things) (Refused x) c → x ≡ at_rest rack g → (t : ℕ) → Due plan dates precedes b g t → ⊥
-  rests_so _ _ _ _ _ (rests g words things none last) is t due = both_ways _ (last t (omega (arith, due.ahead))) (moment_at g t due)
-  rests_so g words things x _ (declines _ _ found) is t due =
-      let twelve : x.number ≡ 12 = ap (λ (y : Complaint). y.number) is in
-      other_complaint (is_group rack g) (nat_le 512 words) (nat_le 64 things) _ _ _ x (λ e. omega arith) (λ e. omega arith) (λ e. omega arith) found
+  -- so a group has no later moment just where nothing is due
+  rest_is : (g : ℕ) → AtRest rack dates b g ↔ ((t : ℕ) → Due plan dates precedes b g t → ⊥)
+  rest_is g = (
+    λ rest t due. both_ways _ (rest t (omega (arith, due.ahead))) (moment_at g t due),
+    λ none t later. false_from_ne_true _ (λ moment. none t (due_at g t (omega arith) moment)),
+  )
+
+  goes_so : (g words things : ℕ) (s : Sheet) (c : Book) → Step rack dates precedes b (Advance g words things) (Advanced s) c → HasLength s
+  goes_so _ _ _ _ _ (advances g words things s none next) = omega (arith, next.moment.later, next.start')
 
 pub ends_due : Always EndsDue
-ends_due plan dates spacings precedes lawful b c reached g words things = ((λ s step. ends_so lawful b g words things s c step), λ step. rests_so lawful b g words things _ c step refl)
+ends_due plan dates spacings precedes lawful b reached g = ((λ c words things s step long. ends_so lawful b g words things s c step), rest_is lawful b g)
+
+pub goes_on : Always GoesOn
+goes_on plan dates spacings precedes lawful b c reached g words things s step = goes_so lawful b g words things s c step

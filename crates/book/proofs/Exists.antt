@@ -10,7 +10,7 @@ use Rattle.book.specs.Racks.{Rack, rack_of}
 use Rattle.book.specs.Sheets.{Row, Sheet}
 use Rattle.book.specs.Books.{Book, blank, entered, without, group_with, in_use, date_of, deadline_of, is_live, is_moment}
 use Rattle.book.specs.Turns.{IsRow, AreRows, IsNext, has}
-use Rattle.book.specs.Calls.{Call, Answer, Step, Leads, about, at_rest, is_group, standing_of}
+use Rattle.book.specs.Calls.{Call, Answer, Step, Leads, about, no_moment, is_group, standing_of}
 use Rattle.book.specs.Calls.Call.{Advance, Withdraw, AskStanding}
 use Rattle.book.specs.Calls.Answer.{Advanced, Withdrew, Stands, Refused}
 use Rattle.book.specs.Calls.Step.{declines, advances, rests, withdraws, stands}
@@ -107,7 +107,7 @@ module _ {rack : Rack} (ok : IsRack rack) {dates : ℕ → ℕ → Bool} {spacin
     | inl found ↦
         let next = some_sheet ok dates b order g found.0 (passed (is_group rack g) _ _ fine).0 found.1 in
         (Advanced next.0, (entered b next.0, advances g words things next.0 fine next.1))
-    | inr none ↦ (Refused (at_rest rack g), (b, rests g words things fine none))
+    | inr none ↦ (Refused (no_moment rack g), (b, rests g words things fine none))
   ]
 
   -- a call without a fault has an answer

@@ -13,6 +13,7 @@ use Rattle.order.specs.Laws.{OrderLaws}
 use Rattle.dates.specs.Dates.{CalendarLaws}
 use Rattle.standing.specs.declared.Phase.{Phase}
 use Rattle.standing.specs.declared.Phase.TheVariants as phase
+use Rattle.standing.specs.Standings.{phase_number}
 use Rattle.kinds.specs.declared.runs.Run.{Run}
 use Rattle.plan.specs.declared.pieces.Pieces.{Pieces}
 use Rattle.plan.specs.declared.pieces.Pieces.TheVariants.{Whole, Divided}
@@ -22,7 +23,7 @@ use Rattle.book.specs.Racks.{Rack, is_divided, whole_on}
 use Rattle.book.specs.Sheets.{Span, Row, Sheet, holder, words_of, got, workers_with}
 use Rattle.book.specs.Books.{Book, is_live, left, present_of, date_of, served}
 use Rattle.book.specs.Turns.{head_of, tail_of, head, tail, opens, closes, ahead, has, IsRow, AreRows, IsNext}
-use Rattle.book.specs.Calls.{standing_of}
+use Rattle.book.specs.Calls.{quiet, standing_of}
 use Rattle.book.specs.Laws.{FitsWords, FitsFields}
 use Rattle.book.proofs.Sums.{total_le, total_one, total_add, total_at_most_one, total_swap, at_le_total, total_le_all, total_some}
 use Rattle.book.proofs.Racks.{IsRack, within_both}
@@ -138,7 +139,7 @@ module _ {rack : Rack} (ok : IsRack rack) (dates : ℕ → ℕ → Bool) (b : Bo
   abbrev mark : ℕ → ℕ
   mark i = mark_of rack.grain D (Head i) (Tail i) Closes (Opens + Ahead i + Left i)
 
-  has_from : (i x : ℕ) → IsTrue (is_live rack dates b i) → HoldsAt i x → IsTrue (Has i x)
+  pub has_from : (i x : ℕ) → IsTrue (is_live rack dates b i) → HoldsAt i x → IsTrue (Has i x)
   has_from i x live (at_head l) = and_from _ _ live (or_left _ _ (or_left _ _ (lt-ltb _ _ l)))
   has_from i x live (at_tail l) = and_from _ _ live (or_left _ _ (or_right _ _ (le-leb _ _ l)))
   has_from i x live (at_turn w o t c) = and_from _ _ live (or_right _ _ (and_from _ _ (and_from _ _ (and_from _ _ w (le-leb _ _ o)) (lt-ltb _ _ t)) (lt-ltb _ _ c)))
@@ -271,7 +272,7 @@ module _ {rack : Rack} (ok : IsRack rack) (dates : ℕ → ℕ → Bool) (b : Bo
       omega (arith, row_spans ok dates b precedes D p order row are.0, rows_spans (p + 1) rows are.1, total_add rack.models (λ k. cond (stands_on p (rack.pieces (k + 1))) 1 0) (λ k. stands (length rows) (p + 1) (rack.pieces (k + 1))))
 
   -- rows have at most one span each, one for each model, and one for each divided model
-  spans_few : (p : ℕ) (rows : List Row) → AreRows rack dates precedes b D p rows → spans_in rows ≤ length rows + 95
+  pub spans_few : (p : ℕ) (rows : List Row) → AreRows rack dates precedes b D p rows → spans_in rows ≤ length rows + 95
   spans_few p rows are =
       let n = rack.models in
       let each = total_le n (λ k. stands (length rows) p (rack.pieces (k + 1))) (λ k. 1 + cond (is_divided (rack.pieces (k + 1))) 1 0) (λ k l. stands_few (length rows) p (rack.pieces (k + 1))) in
@@ -304,7 +305,7 @@ module _ {rack : Rack} (ok : IsRack rack) (dates : ℕ → ℕ → Bool) (preced
       record {
         short = omega (arith, words_length s, spans_few ok dates b precedes order D s.first s.rows next.rows');
         narrow = All-weaker (λ w. w ≤ B) (λ w. w < 2 ^ 64) (λ w l. omega arith) (words_of s) within;
-        rises = omega (arith, next.moment.later, next.start');
+        start' = omega (arith, next.moment.later, next.start');
         end' = omega arith;
         first' = omega (arith, workers.some, workers.within, ok.few_workers);
       }
@@ -313,10 +314,10 @@ module _ {rack : Rack} (ok : IsRack rack) (dates : ℕ → ℕ → Bool) (preced
 difference_fits : (a c : ℕ) → a < 2 ^ 40 → c < 2 ^ 40 → FitsSigned w64 (pos a -ℤ pos c)
 difference_fits a c l m = omega (arith, ints)
 
-idle_fits : (phase : Phase) → FitsFields (record { phase = phase; date = 0; served = 0; lag = pos 0 })
+idle_fits : (phase : Phase) → FitsFields (quiet phase)
 idle_fits phase = record { date' = omega arith; served' = omega arith; lag' = omega (arith, ints) }
 
-parts_between : (t d G : ℕ) → t * G - d * G ≤ (t - d) * G
+pub parts_between : (t d G : ℕ) → t * G - d * G ≤ (t - d) * G
 parts_between t d G = omega (arith, add-mul (t - d) d G, mul-le-mul_right G (let h : t ≤ t - d + d = omega arith in h))
 
 -- with one worker at a time, a model gets no more parts than there are
@@ -324,8 +325,8 @@ got_few : (grain : ℕ) (sheets : List Sheet) (i from to : ℕ) → ((x : ℕ) �
 got_few grain sheets i from to one = omega (arith, total_le_all (to - from) 1 (λ k. workers_with grain sheets i (from + k)) (λ k l. one (from + k)))
 
 module _ {rack : Rack} (ok : IsRack rack) {dates : ℕ → ℕ → Bool} {spacings : ℕ → ℕ} (calendar : CalendarLaws dates spacings) (b : Book) where
-  live_fits : (i : ℕ) → ((x : ℕ) → workers_with rack.grain b.sheets i x ≤ 1) → IsTrue (is_live rack dates b i)
-      → FitsFields (record { phase = phase.Live; date = date_of rack dates b i; served = served rack dates b i; lag = pos (served rack dates b i) -ℤ pos (rack.weight i * (present_of rack b i - date_of rack dates b i)) })
+  pub live_fits : (i : ℕ) → ((x : ℕ) → workers_with rack.grain b.sheets i x ≤ 1) → IsTrue (is_live rack dates b i)
+      → FitsFields (record { phase = phase_number phase.Live; date = date_of rack dates b i; served = served rack dates b i; lag = pos (served rack dates b i) -ℤ pos (rack.weight i * (present_of rack b i - date_of rack dates b i)) })
   live_fits i one live =
       let date = date_of rack dates b i in
       let gone = present_of rack b i - date in

@@ -116,7 +116,7 @@ module _ {rack : Rack} (ok : IsRack rack) where
       holder_worker i x l (at_turn w o a c) = inl (whole_worker p (rack.pieces i) w).0
 
       -- two models with a piece at the same end are one
-      one_end : (mirrored : Bool) (i j : ℕ) → IsTrue (is_model_of rack i) → IsTrue (is_model_of rack j) → 0 < head_of mirrored p (rack.pieces i) → 0 < head_of mirrored p (rack.pieces j) → i ≡ j
+      pub one_end : (mirrored : Bool) (i j : ℕ) → IsTrue (is_model_of rack i) → IsTrue (is_model_of rack j) → 0 < head_of mirrored p (rack.pieces i) → 0 < head_of mirrored p (rack.pieces j) → i ≡ j
       one_end mirrored i j mi mj hi hj =
           let bi = model_bounds i mi in
           let bj = model_bounds j mj in
@@ -145,11 +145,11 @@ module _ {rack : Rack} (ok : IsRack rack) where
         abbrev Opens : ℕ
         Opens = opens rack b p D
 
-        abbrev turn_at : ℕ → ℕ → ℕ
+        abbrev pub turn_at : ℕ → ℕ → ℕ
         turn_at y k = cond (nat_le (before prec waits rack.models k) y && nat_lt y (before prec waits rack.models k + waits k)) 1 0
 
         -- at a part in its turn a run is the one that is served
-        in_turn_one : (i x : ℕ) → IsTrue (is_live rack dates b i) → IsTrue (whole_on p (rack.pieces i)) → Opens + ahead rack dates precedes b p i ≤ x → x < Opens + ahead rack dates precedes b p i + left rack dates b i
+        pub in_turn_one : (i x : ℕ) → IsTrue (is_live rack dates b i) → IsTrue (whole_on p (rack.pieces i)) → Opens + ahead rack dates precedes b p i ≤ x → x < Opens + ahead rack dates precedes b p i + left rack dates b i
             → 1 ≤ turn_at (x - Opens) (i - 1)
         in_turn_one i x live whole low high =
             let m = model_bounds i (live_model i live) in
@@ -158,10 +158,10 @@ module _ {rack : Rack} (ok : IsRack rack) where
             let rest : waits (i - 1) ≡ left rack dates b i = ap (λ j. cond (takes_turns rack dates b p j) (left rack dates b j) 0) e ∙ rw (live, whole) refl in
             turn_test _ _ _ _ Opens x front rest low high
 
-        head_le : (i : ℕ) → IsTrue (is_live rack dates b i) → Head i ≤ up_to rack.models Head
+        pub head_le : (i : ℕ) → IsTrue (is_live rack dates b i) → Head i ≤ up_to rack.models Head
         head_le i v = let m = model_bounds i (live_model i v) in at_le_up_to rack.models Head i m.0 m.1
 
-        tail_le : (i : ℕ) → IsTrue (is_live rack dates b i) → Tail i ≤ up_to rack.models Tail
+        pub tail_le : (i : ℕ) → IsTrue (is_live rack dates b i) → Tail i ≤ up_to rack.models Tail
         tail_le i v = let m = model_bounds i (live_model i v) in at_le_up_to rack.models Tail i m.0 m.1
 
         -- at a part of the interval one model at most has the worker

@@ -6,7 +6,7 @@ use Rattle.std.proofs.lemmas.Int.{ints}
 use Rattle.refusal.proofs.Firsts.{none_below, passed}
 use Rattle.kinds.specs.declared.runs.Run.{Run}
 use Rattle.plan.specs.declared.plans.Plan.{Plan}
-use Rattle.standing.specs.declared.Standing.{Standing}
+use Rattle.standing.specs.Standings.{Report}
 use Rattle.book.specs.Racks.{Rack, rack_of, is_divided}
 use Rattle.book.specs.Sheets.{Sheet, workers_with, got}
 use Rattle.book.specs.Books.{Book, entered, is_model_of, group_with, present_of, in_use, date_of, is_live}
@@ -94,21 +94,21 @@ module _ {plan : Plan} {dates : ℕ → ℕ → Bool} {spacings : ℕ → ℕ} {
   sheet_fit : (b : Book) (g words things : ℕ) (s : Sheet) (c : Book) → Step rack dates precedes b (Advance g words things) (Advanced s) c → FitsWords s
   sheet_fit b _ _ _ _ _ (advances g words things s none next) = sheet_fits ok dates precedes lawful.order b g s next (moment_early ok dates b lawful.calendar g s.end next.moment.date)
 
-  standing_fit : (b : Book) (i : ℕ) (standing : Standing) (c : Book) → Sound rack dates b → Step rack dates precedes b (AskStanding i) (Stands standing) c → FitsFields standing
+  standing_fit : (b : Book) (i : ℕ) (report : Report) (c : Book) → Sound rack dates b → Step rack dates precedes b (AskStanding i) (Stands report) c → FitsFields report
   standing_fit b _ _ _ sound (stands i none) = standing_fits ok lawful.calendar b sound.alone i
 
-  tells_at : (b : Book) (i d : ℕ) (standing : Standing) (c : Book) → Sound rack dates b → HasRun plan dates precedes b i d → Step rack dates precedes b (AskStanding i) (Stands standing) c → Tells plan dates precedes b i d standing
-  tells_at b _ d standing _ sound run (stands i none) =
+  tells_at : (b : Book) (i d : ℕ) (report : Report) (c : Book) → Sound rack dates b → HasRun plan dates precedes b i d → Step rack dates precedes b (AskStanding i) (Stands report) c → Tells plan dates precedes b i d report
+  tells_at b _ d report _ sound run (stands i none) =
       let now = run_live b i d run in
       let is = cond-false _ _ _ run.remains.kept ∙ cond-true _ _ _ now.0 in
       let since = ap (λ t. got rack.grain b.sheets i (t * rack.grain) (present_of rack b i * rack.grain)) now.1 in
-      let had = ap (λ (x : Standing). x.served) is in
-      let late = ap (λ (x : Standing). x.lag) is in
+      let had = ap (λ (x : Report). x.served) is in
+      let late = ap (λ (x : Report). x.lag) is in
       record {
-        phase' = ap (λ (x : Standing). x.phase) is;
-        date' = ap (λ (x : Standing). x.date) is ∙ now.1;
+        phase' = ap (λ (x : Report). x.phase) is;
+        date' = ap (λ (x : Report). x.date) is ∙ now.1;
         served' = had ∙ since;
-        lag' = late ∙ ap (λ n. pos n -ℤ pos (rack.weight i * (present_of rack b i - date_of rack dates b i))) (sym had) ∙ ap (λ t. pos standing.served -ℤ pos (rack.weight i * (present_of rack b i - t))) now.1;
+        lag' = late ∙ ap (λ n. pos n -ℤ pos (rack.weight i * (present_of rack b i - date_of rack dates b i))) (sym had) ∙ ap (λ t. pos report.served -ℤ pos (rack.weight i * (present_of rack b i - t))) now.1;
         even = λ divided. late ∙ level _ _ (sound.shares i divided now.0);
       }
 
@@ -119,7 +119,7 @@ fair_shares plan dates spacings precedes lawful b c e reached g words things s s
     got_stays lawful i _ _ (live_model (ok lawful) dates b i alive) c calls answers e led (omega (arith, ap (λ t. t * (rack_of plan).grain) first.1)) ∙ first.0
 
 pub one_worker : Always OneWorker
-one_worker plan dates spacings precedes lawful b reached = (reached_sound lawful b reached).alone
+one_worker plan dates spacings precedes lawful b reached i x model = (reached_sound lawful b reached).alone i x model.first
 
 pub whole_runs : Always WholeRuns
 whole_runs plan dates spacings precedes lawful b c reached calls answers led i d remains date over =
@@ -128,10 +128,10 @@ whole_runs plan dates spacings precedes lawful b c reached calls answers led i d
     got_stays lawful i _ _ model b calls answers c led (mul-le-mul_right (rack_of plan).grain over) ∙ (reached_sound lawful b reached).full i d used date over
 
 pub standings_tell : Always StandingsTell
-standings_tell plan dates spacings precedes lawful b c reached i d run standing step = tells_at lawful b i d standing c (reached_sound lawful b reached) run step
+standings_tell plan dates spacings precedes lawful b c reached i d run report step = tells_at lawful b i d report c (reached_sound lawful b reached) run step
 
 pub sheets_fit : Always SheetsFit
-sheets_fit plan dates spacings precedes lawful b c reached g words things s step = sheet_fit lawful b g words things s c step
+sheets_fit plan dates spacings precedes lawful b c reached g words things s step long = sheet_fit lawful b g words things s c step
 
 pub standings_fit : Always StandingsFit
-standings_fit plan dates spacings precedes lawful b c reached i standing step = standing_fit lawful b i standing c (reached_sound lawful b reached) step
+standings_fit plan dates spacings precedes lawful b c reached i report step = standing_fit lawful b i report c (reached_sound lawful b reached) step

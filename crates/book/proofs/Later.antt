@@ -89,4 +89,4 @@ step_same : {rack : Rack} → IsRack rack → (dates other : ℕ → ℕ → Boo
 step_same ok dates other precedes b _ _ _ _ _ (advances g words things s none next) same = advances g words things s none (next_same ok dates other precedes b g s same next)
 
 pub same_up_to_end : Always SameUpToEnd
-same_up_to_end plan dates spacings precedes lawful other b c g words things s step same = step_same (rack_of-IsRack plan) dates other precedes b g words things s c step same
+same_up_to_end plan dates spacings precedes lawful other b c g words things s step long same = step_same (rack_of-IsRack plan) dates other precedes b g words things s c step same

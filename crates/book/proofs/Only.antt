@@ -72,7 +72,7 @@ module _ {plan : Plan} {dates : ℕ → ℕ → Bool} {spacings : ℕ → ℕ} {
       gone_stays i x some (without b i) calls answers e led (cond-true (i == i) true (b.withdrawn i) (eq-eqb i i refl)) ∙ (reached_sound lawful b reached).past i x some late
 
 pub only_runs : Always OnlyRuns
-only_runs plan dates spacings precedes lawful b reached = calls_keep (AllWithin lawful) (within_entered lawful) (λ b i all. all) reached.led (λ i x some with. absurd (omega arith))
+only_runs plan dates spacings precedes lawful b reached i x model = calls_keep (AllWithin lawful) (within_entered lawful) (λ b i all. all) reached.led (λ i x some with. absurd (omega arith)) i x model.first
 
 pub none_withdrawn : Always NoneWithdrawn
 none_withdrawn plan dates spacings precedes lawful b c e reached i step calls answers led x late = since lawful b i c e reached step calls answers led x late

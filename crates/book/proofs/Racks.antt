@@ -5,6 +5,7 @@ use Rattle.std.specs.Bool.{IsTrue, nat_le}
 use Rattle.std.proofs.lemmas.Bool.{cases_lt}
 use Rattle.std.proofs.lemmas.Bool.Decides.{nat_tests}
 use Rattle.set.specs.Sets.{grain_of, period_of}
+use Rattle.set.specs.Heavy.{heavy_count_of}
 use Rattle.set.proofs.Weights.{weighs}
 use Rattle.plan.specs.declared.pieces.Pieces.{Pieces}
 use Rattle.plan.specs.declared.plans.Plan.{Plan}
@@ -91,5 +92,5 @@ module _ (plan : Plan) where
             let second = λ (i : ℕ) (some : 1 ≤ i) (last : i ≤ sizes.models) (d : IsTrue (is_divided (pieces_at plan.pieces (i - 1)))). second_some _ d (plan.positive (i - 1) (omega arith)).1 in
             let e : i - 1 ≡ j - 1 = plan.one_first (i - 1) (j - 1) ((omega arith, omega arith, second i some last di, second j some' last' dj), same) in
             omega arith;
-        groups = λ g h. let w = within_both 1 _ g h in every_group plan.alone sizes.group_size sizes.some_group sizes.workers g sizes.some_workers w.0 w.1;
+        groups = λ g h. let w = within_both 1 _ g h in every_group (heavy_count_of plan.set) sizes.group_size sizes.some_group sizes.workers g sizes.some_workers w.0 w.1;
       }

@@ -12,28 +12,28 @@ use Rattle.book.specs.Sheets.{Span, Row, Sheet, holder, Tiles, words_of, Says}
 use Rattle.book.proofs.Sums.{latest_is, total_le, total_none, at_le_total, total_at_most_one, total_swap}
 
 -- the first span has the parts before its end, and the others have the rest
-holder_here : (span : Span) (row : Row) (x : ℕ) → x < span.end → holder (span ∷ row) x ≡ span.model
+pub holder_here : (span : Span) (row : Row) (x : ℕ) → x < span.end → holder (span ∷ row) x ≡ span.model
 holder_here span row x l = rw (lt-ltb x span.end l) refl
 
-holder_past : (span : Span) (row : Row) (x : ℕ) → span.end ≤ x → holder (span ∷ row) x ≡ holder row x
+pub holder_past : (span : Span) (row : Row) (x : ℕ) → span.end ≤ x → holder (span ∷ row) x ≡ holder row x
 holder_past span row x l = rw (le-ltb x span.end l) refl
 
-tiles_le : (from to : ℕ) (row : Row) → Tiles from to row → from ≤ to
+pub tiles_le : (from to : ℕ) (row : Row) → Tiles from to row → from ≤ to
 tiles_le from to [] t = omega (arith, t)
 tiles_le from to (span ∷ []) t = omega (arith, t.0, t.1)
 tiles_le from to (span ∷ (next ∷ row)) t = omega (arith, t.0, tiles_le span.end to (next ∷ row) t.2)
 
 -- a row by its first span and the others
-record Front (from to : ℕ) (span : Span) (row : Row) : Type 0 where
-  long : from < span.end
-  rest : Tiles span.end to row
-  differ : span.end < to → span.model ≢ holder row span.end
+pub record Front (from to : ℕ) (span : Span) (row : Row) : Type 0 where
+  pub long : from < span.end
+  pub rest : Tiles span.end to row
+  pub differ : span.end < to → span.model ≢ holder row span.end
 
 first_long : (from to : ℕ) (span : Span) (row : Row) → Tiles from to (span ∷ row) → from < span.end
 first_long from to span [] t = t.0
 first_long from to span (next ∷ row) t = t.0
 
-front_of : (from to : ℕ) (span : Span) (row : Row) → Tiles from to (span ∷ row) → Front from to span row
+pub front_of : (from to : ℕ) (span : Span) (row : Row) → Tiles from to (span ∷ row) → Front from to span row
 front_of from to span [] t = record { long = t.0; rest = t.1; differ = λ l. absurd (omega (arith, t.1)) }
 front_of from to span (next ∷ row) t = record {
   long = t.0;
@@ -41,7 +41,7 @@ front_of from to span (next ∷ row) t = record {
   differ = λ l e. t.1 (e ∙ holder_here next row span.end (first_long span.end to next row t.2));
 }
 
-tiles_of : (from to : ℕ) (span : Span) (row : Row) → Front from to span row → Tiles from to (span ∷ row)
+pub tiles_of : (from to : ℕ) (span : Span) (row : Row) → Front from to span row → Tiles from to (span ∷ row)
 tiles_of from to span [] f = (f.long, f.rest)
 tiles_of from to span (next ∷ row) f =
     let long = first_long span.end to next row f.rest in

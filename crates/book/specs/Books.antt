@@ -3,6 +3,7 @@ use Rattle.std.specs.Prelude.{ℕ, ◌+◌, ◌-◌, ◌*◌, Bool, true, false,
 use Rattle.set.specs.Limits.{within}
 use Rattle.kinds.specs.declared.runs.Run.{Run}
 use Rattle.plan.specs.Shares.{worker_of}
+use Rattle.dates.specs.Dates.{NoneFrom}
 use Rattle.book.specs.Sums.{some_of, latest}
 use Rattle.book.specs.Racks.{Rack}
 use Rattle.book.specs.Sheets.{Sheet, got}
@@ -77,3 +78,7 @@ module _ (rack : Rack) (dates : ℕ → ℕ → Bool) (b : Book) where
   -- at tick t a model of group g that is in use has a date, or its run ends
   abbrev pub is_moment : ℕ → ℕ → Bool
   is_moment g t = some_of rack.models (λ i. (group_with rack i == g) && (in_use rack b i && (dates i t || (is_live i && deadline_of i == t))))
+
+  -- group g is at rest: it has no later moment
+  abbrev pub AtRest : ℕ → Type 0
+  AtRest g = NoneFrom (is_moment g) (b.present g + 1)

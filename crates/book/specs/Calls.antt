@@ -7,13 +7,12 @@ use Rattle.refusal.specs.declared.Layer.TheVariants.{Opening, Running}
 use Rattle.refusal.specs.declared.Lent.TheVariants.{Sheet as SheetMemory, Scratch}
 use Rattle.set.specs.Limits.{within}
 use Rattle.kinds.specs.declared.runs.Run.{Run}
-use Rattle.standing.specs.declared.Standing.{Standing}
 use Rattle.standing.specs.declared.Phase.{Phase}
 use Rattle.standing.specs.declared.Phase.TheVariants as phase
-use Rattle.dates.specs.Dates.{NoneFrom}
+use Rattle.standing.specs.Standings.{Report, phase_number}
 use Rattle.book.specs.Racks.{Rack}
 use Rattle.book.specs.Sheets.{Sheet, words_of}
-use Rattle.book.specs.Books.{Book, entered, without, is_model_of, present_of, date_of, is_live, served, is_moment}
+use Rattle.book.specs.Books.{Book, entered, without, is_model_of, present_of, date_of, is_live, served, AtRest}
 use Rattle.book.specs.Turns.{IsNext}
 
 -- an advance is lent so many words for the sheet, and scratch for so many things
@@ -25,19 +24,19 @@ pub data Call : Type 0 where
 pub data Answer : Type 0 where
   Advanced : (sheet : Sheet) → Answer
   Withdrew : Answer
-  Stands : (standing : Standing) → Answer
+  Stands : (report : Report) → Answer
   Refused : (complaint : Complaint) → Answer
 
 -- what an advance answers of its sheet: where it starts and ends, its first worker, and how many words it has
 abbrev pub numbers_of : Sheet → ℕ × ℕ × ℕ × ℕ
 numbers_of s = (s.start, s.end, s.first, length (words_of s))
 
--- the standing of a model without a run
-abbrev pub quiet : Phase → Standing
-quiet p = record { phase = p; date = 0; served = 0; lag = pos 0 }
+-- what is said of a model without a run
+abbrev pub quiet : Phase → Report
+quiet p = record { phase = phase_number p; date = 0; served = 0; lag = pos 0 }
 
 -- a complaint of the layer that plans are run by
-abbrev running : Fault → ℕ → Complaint
+abbrev pub running : Fault → ℕ → Complaint
 running fault place = record { number = number_of fault; layer = Running; place = place }
 
 module _ (rack : Rack) where
@@ -61,17 +60,17 @@ module _ (rack : Rack) where
   about b (Withdraw i) = about_model i (check (not (b.withdrawn i)) (running Withdrawn i) None)
   about b (AskStanding i) = about_model i None
 
-  -- a group that has no later moment
-  abbrev pub at_rest : ℕ → Complaint
-  at_rest = running Moment
+  -- what a group at rest is told
+  abbrev pub no_moment : ℕ → Complaint
+  no_moment = running Moment
 
   module _ (dates : ℕ → ℕ → Bool) where
     -- how a model stands; the lag of a run is what it got less what an even pace would have given it, its weight at each tick since its date
-    abbrev pub standing_of : Book → ℕ → Standing
+    abbrev pub standing_of : Book → ℕ → Report
     standing_of b i =
         if b.withdrawn i then quiet phase.Withdrawn
         else if is_live rack dates b i then record {
-          phase = phase.Live;
+          phase = phase_number phase.Live;
           date = date_of rack dates b i;
           served = served rack dates b i;
           lag = pos (served rack dates b i) -ℤ pos (rack.weight i * (present_of rack b i - date_of rack dates b i));
@@ -83,7 +82,7 @@ module _ (rack : Rack) where
       pub data Step (b : Book) : Call → Answer → Book → Type 0 where
         declines : (call : Call) (complaint : Complaint) → about b call ≡ Some complaint → Step b call (Refused complaint) b
         advances : (g words things : ℕ) (s : Sheet) → about b (Advance g words things) ≡ None → IsNext rack dates precedes b g s → Step b (Advance g words things) (Advanced s) (entered b s)
-        rests : (g words things : ℕ) → about b (Advance g words things) ≡ None → NoneFrom (is_moment rack dates b g) (b.present g + 1) → Step b (Advance g words things) (Refused (at_rest g)) b
+        rests : (g words things : ℕ) → about b (Advance g words things) ≡ None → AtRest rack dates b g → Step b (Advance g words things) (Refused (no_moment g)) b
         withdraws : (i : ℕ) → about b (Withdraw i) ≡ None → Step b (Withdraw i) Withdrew (without b i)
         stands : (i : ℕ) → about b (AskStanding i) ≡ None → Step b (AskStanding i) (Stands (standing_of b i)) b
 

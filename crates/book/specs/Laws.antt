@@ -1,16 +1,17 @@
 -- The laws of every list of calls. They say in the subject's own words what the rules come to.
-use Rattle.std.specs.Prelude.{◌≡◌, ◌≢◌, ℕ, ◌+◌, ◌-◌, ◌*◌, ◌^◌, ◌<◌, ◌≤◌, ◌⊎◌, Bool, IsTrue, IsFalse, All, List, length, None, pos, ◌-ℤ◌, FitsSigned}
+use Rattle.std.specs.Prelude.{◌≡◌, ◌≢◌, ℕ, ◌+◌, ◌-◌, ◌*◌, ◌^◌, ◌<◌, ◌≤◌, ◌⊎◌, ◌↔◌, Bool, IsTrue, IsFalse, All, List, length, None, pos, ◌-ℤ◌, FitsSigned}
 use Rattle.std.specs.Int.{w64}
 use Rattle.order.specs.Laws.{OrderLaws}
 use Rattle.kinds.specs.declared.runs.Run.{Run}
+use Rattle.set.specs.Sets.{HasModel}
 use Rattle.plan.specs.declared.plans.Plan.{Plan}
 use Rattle.dates.specs.Dates.{CalendarLaws}
-use Rattle.standing.specs.declared.Standing.{Standing}
 use Rattle.standing.specs.declared.Phase.TheVariants.{Live}
+use Rattle.standing.specs.Standings.{Report, phase_number}
 use Rattle.book.specs.Racks.{Rack, rack_of, is_divided}
-use Rattle.book.specs.Sheets.{Sheet, workers_with, got, words_of}
-use Rattle.book.specs.Books.{Book, blank, group_with, present_of}
-use Rattle.book.specs.Calls.{Call, Advance, Withdraw, AskStanding, Answer, Advanced, Withdrew, Stands, Refused, Step, Leads, about_opening, at_rest}
+use Rattle.book.specs.Sheets.{Sheet, HasLength, workers_with, got, words_of}
+use Rattle.book.specs.Books.{Book, blank, group_with, present_of, AtRest}
+use Rattle.book.specs.Calls.{Call, Advance, Withdraw, AskStanding, Answer, Advanced, Withdrew, Stands, Step, Leads, about_opening}
 
 -- what a roster is opened over: a plan, and a lawful calendar and order, where no two dates of a model lie nearer than its period
 pub record Lawful (plan : Plan) (dates : ℕ → ℕ → Bool) (spacings : ℕ → ℕ) (precedes : Run → Run → Bool) : Type 0 where
@@ -26,15 +27,15 @@ Always Law = (plan : Plan) (dates : ℕ → ℕ → Bool) (spacings : ℕ → �
 pub record FitsWords (s : Sheet) : Type 0 where
   pub short : length (words_of s) ≤ 287
   pub narrow : All (λ w. w < 2 ^ 64) (words_of s)
-  pub rises : s.start < s.end
+  pub start' : s.start < 2 ^ 32
   pub end' : s.end < 2 ^ 32
   pub first' : s.first < 2 ^ 32
 
--- a standing fits its fields
-pub record FitsFields (standing : Standing) : Type 0 where
-  pub date' : standing.date < 2 ^ 32
-  pub served' : standing.served < 2 ^ 64
-  pub lag' : FitsSigned w64 standing.lag
+-- what is said of a model fits the fields of a standing
+pub record FitsFields (report : Report) : Type 0 where
+  pub date' : report.date < 2 ^ 32
+  pub served' : report.served < 2 ^ 64
+  pub lag' : FitsSigned w64 report.lag
 
 module _ (plan : Plan) (dates : ℕ → ℕ → Bool) (precedes : Run → Run → Bool) where
   abbrev rack : Rack
@@ -94,7 +95,7 @@ module _ (plan : Plan) (dates : ℕ → ℕ → Bool) (precedes : Run → Run �
 
   -- 3. at no part of time is a model on two workers
   abbrev pub OneWorker : Type 0
-  OneWorker = (b : Book) → Reached b → (i x : ℕ) → 1 ≤ i → workers_with rack.grain b.sheets i x ≤ 1
+  OneWorker = (b : Book) → Reached b → (i x : ℕ) → HasModel plan.set i → workers_with rack.grain b.sheets i x ≤ 1
 
   -- 4. where a model is not withdrawn when its group has come to the deadline of a date, that date's run gets exactly its parts between the two, whatever calls follow
   abbrev pub WholeRuns : Type 0
@@ -112,7 +113,7 @@ module _ (plan : Plan) (dates : ℕ → ℕ → Bool) (precedes : Run → Run �
 
   -- 5. a worker has a model only between a date of it and the deadline
   abbrev pub OnlyRuns : Type 0
-  OnlyRuns = (b : Book) → Reached b → (i x : ℕ) → 1 ≤ i → 1 ≤ workers_with rack.grain b.sheets i x → Within i x
+  OnlyRuns = (b : Book) → Reached b → (i x : ℕ) → HasModel plan.set i → 1 ≤ workers_with rack.grain b.sheets i x → Within i x
 
   -- 6. from its withdrawal on a model gets nothing
   abbrev pub NoneWithdrawn : Type 0
@@ -128,38 +129,42 @@ module _ (plan : Plan) (dates : ℕ → ℕ → Bool) (precedes : Run → Run �
     pub to : c.present g ≡ s.end
     pub others : (h : ℕ) → h ≢ g → c.present h ≡ b.present h
 
-  -- 7. every advance does, and a group is at rest only where nothing is due
+  -- 7. so does every advance whose interval has a length, and a group is at rest just where nothing is due
   abbrev pub EndsDue : Type 0
   EndsDue =
-      (b c : Book) → Reached b → (g words things : ℕ)
-      → ((s : Sheet) → StepsTo b (Advance g words things) (Advanced s) c → Passes b c g s)
-      × (StepsTo b (Advance g words things) (Refused (at_rest rack g)) c → (t : ℕ) → Due b g t → ⊥)
+      (b : Book) → Reached b → (g : ℕ)
+      → ((c : Book) (words things : ℕ) (s : Sheet) → StepsTo b (Advance g words things) (Advanced s) c → HasLength s → Passes b c g s)
+      × (AtRest rack dates b g ↔ ((t : ℕ) → Due b g t → ⊥))
 
-  -- a standing tells the run that model i has since d: the parts that the sheets gave it since, and how far they are ahead of an even pace
-  pub record Tells (b : Book) (i d : ℕ) (standing : Standing) : Type 0 where
-    pub phase' : standing.phase ≡ Live
-    pub date' : standing.date ≡ d
-    pub served' : standing.served ≡ got rack.grain b.sheets i (d * rack.grain) (present_of rack b i * rack.grain)
-    pub lag' : standing.lag ≡ pos standing.served -ℤ pos (rack.weight i * (present_of rack b i - d))
+  -- 8. every advance goes on
+  abbrev pub GoesOn : Type 0
+  GoesOn = (b c : Book) → Reached b → (g words things : ℕ) (s : Sheet) → StepsTo b (Advance g words things) (Advanced s) c → HasLength s
+
+  -- a report tells the run that model i has since d: the parts that the sheets gave it since, and how far they are ahead of an even pace
+  pub record Tells (b : Book) (i d : ℕ) (report : Report) : Type 0 where
+    pub phase' : report.phase ≡ phase_number Live
+    pub date' : report.date ≡ d
+    pub served' : report.served ≡ got rack.grain b.sheets i (d * rack.grain) (present_of rack b i * rack.grain)
+    pub lag' : report.lag ≡ pos report.served -ℤ pos (rack.weight i * (present_of rack b i - d))
     -- a divided run is neither ahead nor behind
-    pub even : IsTrue (is_divided (rack.pieces i)) → standing.lag ≡ pos 0
+    pub even : IsTrue (is_divided (rack.pieces i)) → report.lag ≡ pos 0
 
-  -- 8. a standing tells the run of a model that has one
+  -- 9. a standing tells the run of a model that has one
   abbrev pub StandingsTell : Type 0
   StandingsTell =
       (b c : Book) → Reached b → (i d : ℕ) → HasRun b i d
-      → (standing : Standing) → StepsTo b (AskStanding i) (Stands standing) c → Tells b i d standing
+      → (report : Report) → StepsTo b (AskStanding i) (Stands report) c → Tells b i d report
 
-  -- 9. every sheet fits
+  -- 10. every sheet of an interval that has a length fits
   abbrev pub SheetsFit : Type 0
-  SheetsFit = (b c : Book) → Reached b → (g words things : ℕ) (s : Sheet) → StepsTo b (Advance g words things) (Advanced s) c → FitsWords s
+  SheetsFit = (b c : Book) → Reached b → (g words things : ℕ) (s : Sheet) → StepsTo b (Advance g words things) (Advanced s) c → HasLength s → FitsWords s
 
-  -- 10. every standing fits
+  -- 11. every standing fits
   abbrev pub StandingsFit : Type 0
-  StandingsFit = (b c : Book) → Reached b → (i : ℕ) (standing : Standing) → StepsTo b (AskStanding i) (Stands standing) c → FitsFields standing
+  StandingsFit = (b c : Book) → Reached b → (i : ℕ) (report : Report) → StepsTo b (AskStanding i) (Stands report) c → FitsFields report
 
-  -- 11. a sheet depends on no date of another group, and on none behind its end: over other dates that are the same there, it is the same
+  -- 12. a sheet of such an interval depends on no date of another group, and on none behind its end: over other dates that are the same there, it is the same
   abbrev pub SameUpToEnd : Type 0
   SameUpToEnd =
-      (other : ℕ → ℕ → Bool) (b c : Book) (g words things : ℕ) (s : Sheet) → StepsTo b (Advance g words things) (Advanced s) c
+      (other : ℕ → ℕ → Bool) (b c : Book) (g words things : ℕ) (s : Sheet) → StepsTo b (Advance g words things) (Advanced s) c → HasLength s
       → ((i t : ℕ) → group_with rack i ≡ g → t ≤ s.end → other i t ≡ dates i t) → Step rack other precedes b (Advance g words things) (Advanced s) c

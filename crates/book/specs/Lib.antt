@@ -4,4 +4,5 @@ pub mod Sheets
 pub mod Books
 pub mod Turns
 pub mod Calls
+pub mod Buffers
 pub mod Laws

@@ -5,7 +5,7 @@ use Rattle.plan.specs.declared.pieces.Pieces.{Pieces}
 use Rattle.plan.specs.declared.pieces.Pieces.TheVariants.{Whole, Divided}
 use Rattle.plan.specs.declared.plans.Plan.{Plan}
 use Rattle.plan.specs.Shares.{pieces_at}
-use Rattle.plan.specs.Answers.{group_in}
+use Rattle.plan.specs.Groups.{group_in}
 
 pub record Rack : Type 0 where
   -- how many models and workers there are, and how many parts each worker has in a tick
@@ -28,7 +28,7 @@ rack_of plan = record {
   models = models_of plan.set;
   workers = worker_count_of plan.set;
   grain = grain_of plan.set;
-  group = group_in plan;
+  group = group_in plan.set;
   period = λ i. period_of plan.set (i - 1);
   parts = λ i. parts_of plan.set (i - 1);
   weight = λ i. weight_of plan.set (i - 1);

@@ -20,6 +20,10 @@ pub record Sheet : Type 0 where
   pub first : ℕ
   pub rows : List Row
 
+-- its interval has a length
+abbrev pub HasLength : Sheet → Type 0
+HasLength s = s.start < s.end
+
 -- the model that has the worker at part x; 0 if it is idle
 abbrev pub holder : Row → ℕ → ℕ
 holder [] x = 0

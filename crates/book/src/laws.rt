@@ -1,6 +1,6 @@
 //! The laws of every list of calls, each in the contract of a function that does nothing.
 //! They hold over every plan, every lawful calendar and every lawful order.
-ghost use Rattle.book.specs.Laws.{Always, OneAnswer, FairShares, OneWorker, WholeRuns, OnlyRuns, NoneWithdrawn, EndsDue, StandingsTell, SheetsFit, StandingsFit, SameUpToEnd};
+ghost use Rattle.book.specs.Laws.{Always, OneAnswer, FairShares, OneWorker, WholeRuns, OnlyRuns, NoneWithdrawn, EndsDue, GoesOn, StandingsTell, SheetsFit, StandingsFit, SameUpToEnd};
 
 /// Every list of calls has its answers, and no others.
 pub fn one_answer()
@@ -32,9 +32,14 @@ pub fn none_withdrawn()
     ensures { Always NoneWithdrawn }
 {}
 
-/// An interval ends at the first tick at which something is due, and a group is at rest only where nothing is.
+/// An interval that has a length ends at the first tick at which something is due, and a group is at rest just where nothing is.
 pub fn ends_due()
     ensures { Always EndsDue }
+{}
+
+/// Every advance goes on: its interval has a length.
+pub fn goes_on()
+    ensures { Always GoesOn }
 {}
 
 /// A standing tells the run of a model that has one, and a divided run is neither ahead nor behind.
@@ -42,7 +47,7 @@ pub fn standings_tell()
     ensures { Always StandingsTell }
 {}
 
-/// A sheet fits 287 words of 64 bits.
+/// A sheet of an interval that has a length fits 287 words of 64 bits.
 pub fn sheets_fit()
     ensures { Always SheetsFit }
 {}
@@ -52,7 +57,7 @@ pub fn standings_fit()
     ensures { Always StandingsFit }
 {}
 
-/// A sheet depends on no date of another group, and on none behind its end.
+/// A sheet of an interval that has a length depends on no date of another group, and on none behind its end.
 pub fn same_up_to_end()
     ensures { Always SameUpToEnd }
 {}

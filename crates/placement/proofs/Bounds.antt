@@ -9,7 +9,8 @@ use Rattle.set.specs.declared.sets.Set.{Set}
 use Rattle.set.specs.Sets.{models_of, grain_of, weight_of, group_size_of, worker_count_of}
 use Rattle.plan.specs.declared.pieces.Pieces.{Pieces}
 use Rattle.placement.specs.declared.cursors.Cursor.{Cursor}
-use Rattle.placement.specs.Rules.{fits, ends, heavy, heavies, alone_of, cursor, placed, room_for_light, about_light, about_placing, total_weight}
+use Rattle.set.specs.Heavy.{heavy, heavies, heavy_count_of}
+use Rattle.placement.specs.Rules.{fits, ends, cursor, placed, room_for_light, about_light, about_placing, total_weight}
 use Rattle.placement.proofs.Rises.{rises}
 use Rattle.placement.proofs.Walks.{Seat, whole, fresh, split, Step, heavy_step, light_step, step, walked}
 use Rattle.placement.specs.Placing.{Modest}
@@ -157,7 +158,7 @@ module _ (set : Set) where
       omega (arith, cond-false {A = ℕ} (heavy set n) 1 0 light)
 
   -- a model that closes a group weighs at most k / (k + 1) of the grain
-  small : (i : ℕ) → heavy set i ≡ false → alone_of set < (cursor set i).worker → (cursor set i).worker < worker_count_of set → ends (alone_of set) (group_size_of set) (cursor set i).worker ≡ true → weight_of set i * (group_size_of set + 1) ≤ group_size_of set * grain_of set
+  small : (i : ℕ) → heavy set i ≡ false → heavy_count_of set < (cursor set i).worker → (cursor set i).worker < worker_count_of set → ends (heavy_count_of set) (group_size_of set) (cursor set i).worker ≡ true → weight_of set i * (group_size_of set + 1) ≤ group_size_of set * grain_of set
   small i light floor Going-on end =
       ⊎_elim
       (λ (narrow : group_size_of set < worker_count_of set).
@@ -166,13 +167,13 @@ module _ (set : Set) where
       (λ lean. ltb-false _ _ lean)
       (and_cases _ _ light))
       (λ (wide : worker_count_of set ≤ group_size_of set).
-      let none : alone_of set ≡ 0 = none_heavy wide (models_of set) in
-      let lt : (cursor set i).worker - alone_of set < group_size_of set = omega arith in
-      absurd (omega (arith, mod-eq_of_lt lt, eqb-true (((cursor set i).worker - alone_of set) % group_size_of set) 0 end)))
+      let none : heavy_count_of set ≡ 0 = none_heavy wide (models_of set) in
+      let lt : (cursor set i).worker - heavy_count_of set < group_size_of set = omega arith in
+      absurd (omega (arith, mod-eq_of_lt lt, eqb-true (((cursor set i).worker - heavy_count_of set) % group_size_of set) 0 end)))
       (cases_lt (group_size_of set) (worker_count_of set))
 
   abbrev Spreads : ℕ → Type 0
-  Spreads i = Spread (alone_of set) (group_size_of set) (grain_of set) (cursor set i) (light_weight i)
+  Spreads i = Spread (heavy_count_of set) (group_size_of set) (grain_of set) (cursor set i) (light_weight i)
 
   module _ (ok : room_for_light set ≡ true) where
     spreads_on : (i : ℕ) → i < models_of set → first_below (about_light set) i ≡ None → about_light set i ≡ None → Spreads i → Step set i → Spreads (suc i)
@@ -181,7 +182,7 @@ module _ (set : Set) where
         rw (t, cond-true (heavy set i) 0 (weight_of set i) is, add-zero) spread
     spreads_on i h before none spread (light_step light same seat) =
         rw (cond-false (heavy set i) 0 (weight_of set i) light)
-        (spread_on (alone_of set) (group_size_of set) (grain_of set) (cursor set i) (light_weight i) spread (weight_of set i) (placed set i) (cursor set (suc i)) seat
+        (spread_on (heavy_count_of set) (group_size_of set) (grain_of set) (cursor set i) (light_weight i) spread (weight_of set i) (placed set i) (cursor set (suc i)) seat
         (λ end over.
         let in-m = cursor_within set i ((enough set ok).1 i h light) before in
         let ne = going set i light none over in
@@ -208,7 +209,7 @@ module _ (set : Set) where
         let m = worker_count_of set in
         let k = group_size_of set in
         let grain = grain_of set in
-        let alone = alone_of set in
+        let alone = heavy_count_of set in
         let spread = spreads i (omega arith) none in
         let all : light_weight i + weight_of set i ≤ light_weight n = omega (arith, light_rises n (suc i) h, cond-false (heavy set i) 0 (weight_of set i) light) in
         let whole-weight = both_weights n in
@@ -247,11 +248,11 @@ module _ (set : Set) where
       let m = worker_count_of set in
       let k = group_size_of set in
       let grain = grain_of set in
-      let over : m ≤ alone_of set = ltb-false (alone_of set) m (or_parts _ _ bad).0 in
+      let over : m ≤ heavy_count_of set = ltb-false (heavy_count_of set) m (or_parts _ _ bad).0 in
       let some-m = set.sizes.some_workers in
       let whole-weight = both_weights n in
       ⊎_elim
-      (λ (narrow : k < m). absurd (crowd_heavy k m grain (alone_of set) (light_weight n) (heavy_weight n) (total_weight set n) some-m over whole-weight (heavy_heavy n) (modest.0 narrow)))
+      (λ (narrow : k < m). absurd (crowd_heavy k m grain (heavy_count_of set) (light_weight n) (heavy_weight n) (total_weight set n) some-m over whole-weight (heavy_heavy n) (modest.0 narrow)))
       (λ (wide : m ≤ k). absurd (omega (arith, none_heavy wide n)))
       (cases_lt k m))
       (cases_Bool (room_for_light set))

@@ -8,7 +8,7 @@ use Rattle.plan.specs.declared.pieces.Pieces.{Pieces}
 use Rattle.plan.specs.declared.pieces.Pieces.TheVariants.{Whole, Divided}
 use Rattle.plan.specs.Shares.{worker_of, last_of, second_of, pieces_at, carried}
 use Rattle.plan.specs.Facts.{Loaded, Shared, Grouped, OneFirst, OneSecond, Positive}
-use Rattle.placement.specs.Rules.{alone_of, placed, room_for_light, about_light}
+use Rattle.placement.specs.Rules.{placed, room_for_light, about_light}
 use Rattle.placement.specs.Placing.{Seated}
 use Rattle.placement.proofs.Carries.{carried_same}
 use Rattle.placement.proofs.Walks.{walked}
@@ -37,8 +37,8 @@ module _ (set : Set) (pieces : List Pieces) (seated : Seated set (models_of set)
   pub shared : Shared set pieces
   shared i h = let w = well_at i h in (w.from_one, w.within, w.adds)
 
-  pub grouped : (alone : ℕ) → alone ≡ alone_of set → Grouped set pieces alone
-  grouped alone e i h = rw e (well_at i h).grouped
+  pub grouped : Grouped set pieces
+  grouped i h = (well_at i h).grouped
 
   pub one_first_piece : OneFirst set pieces
   one_first_piece i j (both, e) =

@@ -9,10 +9,11 @@ use Rattle.set.proofs.Weights.{weighs}
 use Rattle.plan.specs.declared.pieces.Pieces.{Pieces}
 use Rattle.plan.specs.declared.pieces.Pieces.TheVariants.{Whole, Divided}
 use Rattle.plan.specs.Shares.{worker_of, last_of, first_of, second_of}
-use Rattle.plan.specs.Groups.{group_of}
+use Rattle.plan.specs.Groups.{group_in}
 use Rattle.plan.proofs.Spans.{group_next}
 use Rattle.placement.specs.declared.cursors.Cursor.{Cursor}
-use Rattle.placement.specs.Rules.{fits, ends, heavy, heavies, alone_of, cursor, placed, room_for_light, about_light}
+use Rattle.set.specs.Heavy.{heavy, heavies, heavy_count_of}
+use Rattle.placement.specs.Rules.{fits, ends, cursor, placed, room_for_light, about_light}
 use Rattle.placement.proofs.Rises.{rises}
 use Rattle.placement.proofs.Walks.{Seat, whole, fresh, split, Step, heavy_step, light_step, step, walked, heavies_rise}
 
@@ -56,7 +57,7 @@ module _ (set : Set) where
   goes : (i : ℕ) → Goes i (cursor set (suc i))
   goes i = go (step set i)
     where
-      by_seat : heavy set i ≡ false → (x : Pieces) (t : Cursor) → Seat (alone_of set) (group_size_of set) (grain_of set) (cursor set i) (weight_of set i) x t → Goes i t
+      by_seat : heavy set i ≡ false → (x : Pieces) (t : Cursor) → Seat (heavy_count_of set) (group_size_of set) (grain_of set) (cursor set i) (weight_of set i) x t → Goes i t
       by_seat light x t (whole fit ex et) = inl (ap (λ s. s.worker) et)
       by_seat light x t (fresh over why ex et) = inr (light, over, ap (λ s. s.worker) et)
       by_seat light x t (split over more some ex et) = inr (light, over, ap (λ s. s.worker) et)
@@ -66,7 +67,7 @@ module _ (set : Set) where
       go (light_step light same seat) = by_seat light (placed set i) (cursor set (suc i)) seat
 
   -- the walk stays on the workers as long as no model is refused
-  pub cursor_within : (i : ℕ) → alone_of set < worker_count_of set → first_below (about_light set) i ≡ None → (cursor set i).worker ≤ worker_count_of set
+  pub cursor_within : (i : ℕ) → heavy_count_of set < worker_count_of set → first_below (about_light set) i ≡ None → (cursor set i).worker ≤ worker_count_of set
   cursor_within zero room none = omega arith
   cursor_within (suc i) room none =
       let parts = both_none (first_below (about_light set) i) (about_light set i) none in
@@ -89,17 +90,17 @@ module _ (set : Set) where
     pub adds : first_of x + second_of x ≡ weight_of set i
     pub some_first : 1 ≤ first_of x
     pub some_second : worker_of x < last_of x → 1 ≤ second_of x
-    pub grouped : group_of (alone_of set) (group_size_of set) (worker_of x) ≡ group_of (alone_of set) (group_size_of set) (last_of x)
+    pub grouped : group_in set (worker_of x) ≡ group_in set (last_of x)
 
   -- the heavy models leave a worker for the light ones
-  pub enough : room_for_light set ≡ true → (alone_of set ≤ worker_count_of set) × ((i : ℕ) → i < models_of set → heavy set i ≡ false → alone_of set < worker_count_of set)
+  pub enough : room_for_light set ≡ true → (heavy_count_of set ≤ worker_count_of set) × ((i : ℕ) → i < models_of set → heavy set i ≡ false → heavy_count_of set < worker_count_of set)
   enough ok =
       ⊎_elim
-      (λ less. let lt = ltb-true (alone_of set) (worker_count_of set) less in (omega arith, λ i h light. lt))
+      (λ less. let lt = ltb-true (heavy_count_of set) (worker_count_of set) less in (omega arith, λ i h light. lt))
       (λ level.
       let parts = and_parts _ _ level in
-      let all = eqb-true (alone_of set) (models_of set) parts.1 in
-      let e = eqb-true (alone_of set) (worker_count_of set) parts.0 in
+      let all = eqb-true (heavy_count_of set) (models_of set) parts.1 in
+      let e = eqb-true (heavy_count_of set) (worker_count_of set) parts.0 in
       (omega arith, λ i h light. absurd (omega (arith, heavies_less (models_of set) i h light))))
       (or_cases _ _ ok)
 
@@ -113,20 +114,20 @@ module _ (set : Set) where
     grouped = refl;
   }
 
-  well_split : (i p first second : ℕ) (x : Pieces) → x ≡ Divided p first second → 1 ≤ p → p + 1 ≤ worker_count_of set → first + second ≡ weight_of set i → 1 ≤ first → 1 ≤ second → alone_of set < p → ends (alone_of set) (group_size_of set) p ≡ false → Well i x
+  well_split : (i p first second : ℕ) (x : Pieces) → x ≡ Divided p first second → 1 ≤ p → p + 1 ≤ worker_count_of set → first + second ≡ weight_of set i → 1 ≤ first → 1 ≤ second → heavy_count_of set < p → ends (heavy_count_of set) (group_size_of set) p ≡ false → Well i x
   well_split i p first second x e some in-m adds f s high more = rw e record {
     from_one = some;
     within = in-m;
     adds = adds;
     some_first = f;
     some_second = λ lt. s;
-    grouped = group_next (alone_of set) (group_size_of set) set.sizes.some_group p high (eqb-false ((p - alone_of set) % group_size_of set) 0 more);
+    grouped = group_next (heavy_count_of set) (group_size_of set) set.sizes.some_group p high (eqb-false ((p - heavy_count_of set) % group_size_of set) 0 more);
   }
 
   pub well : (i : ℕ) → i < models_of set → room_for_light set ≡ true → first_below (about_light set) (suc i) ≡ None → Well i (placed set i)
   well i h ok none = go (step set i)
     where
-      by_seat : heavy set i ≡ false → (t : Cursor) → t ≡ cursor set (suc i) → Seat (alone_of set) (group_size_of set) (grain_of set) (cursor set i) (weight_of set i) (placed set i) t → Well i (placed set i)
+      by_seat : heavy set i ≡ false → (t : Cursor) → t ≡ cursor set (suc i) → Seat (heavy_count_of set) (group_size_of set) (grain_of set) (cursor set i) (weight_of set i) (placed set i) t → Well i (placed set i)
       by_seat light t is (whole fit ex et) =
           let room = (enough ok).1 i h light in
           let parts = both_none (first_below (about_light set) i) (about_light set i) none in

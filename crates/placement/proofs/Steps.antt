@@ -1,8 +1,6 @@
 -- The steps of the code, in the words of the rules.
-use Rattle.std.proofs.Common.{◌≡◌, ℕ, zero, suc, ◌+◌, ◌-◌, ◌<◌, ◌≤◌, Bool, true, false, cond, not, ◌||◌, eqb, List, [], ◌∷◌, ◌++◌, length, drop, replicate, set as put, None, sym, refl, ap, ◌∙◌, ⊎_elim, add-zero, add-one, zero-add, arith}
-use Rattle.std.specs.List.{range_with_len, filter}
-use Rattle.std.proofs.lemmas.List.FromFn.{filter_of_map_range_with_len_more}
-use Rattle.std.proofs.lemmas.List.{length-append, map-id, get_or-set_same, get_or-set_other, get_or_append_left, get_or-append_right, get_or-drop}
+use Rattle.std.proofs.Common.{◌≡◌, ℕ, suc, ◌+◌, ◌-◌, ◌<◌, ◌≤◌, Bool, true, false, not, ◌||◌, eqb, List, ◌++◌, length, drop, replicate, set as put, None, sym, refl, ap, ◌∙◌, ⊎_elim, add-zero, add-one, arith}
+use Rattle.std.proofs.lemmas.List.{get_or-set_same, get_or-set_other, get_or_append_left, get_or-append_right, get_or-drop}
 use Rattle.std.proofs.lemmas.Bool.{cond-false, cases_eq}
 use Rattle.set.specs.declared.sets.Set.{Set}
 use Rattle.set.specs.Sets.{models_of, grain_of, weight_of, worker_count_of, group_size_of}
@@ -11,41 +9,25 @@ use Rattle.placement.specs.declared.cursors.Cursor.{Cursor}
 use Rattle.set.proofs.Blanks.{get_or_blank}
 use Rattle.plan.specs.Shares.{nowhere, pieces_at}
 use Rattle.refusal.specs.Refusals.{check, first_below}
-use Rattle.placement.specs.Rules.{is_heavy_weight, heavy, heavies, alone_of, fits, seated, moved, cursor, placed, no_room, about_light, room_for_light}
+use Rattle.set.specs.Heavy.{is_heavy_weight, heavy, heavies, heavy_count_of}
+use Rattle.placement.specs.Rules.{fits, seated, moved, cursor, placed, no_room, about_light, room_for_light}
 use Rattle.placement.specs.Placing.{Seated}
 use Rattle.placement.proofs.Walks.{walked}
 use Rattle.placement.proofs.Keeps.{enough, cursor_within}
-
--- the heavy ones of the first n models, picked out and counted
-pub heavies_picked : (set : Set) (n : ℕ) → length (filter (heavy set) (range_with_len 0 n)) ≡ heavies set n
-heavies_picked set zero = refl
-heavies_picked set (suc n) =
-    ap (λ k. length (filter (heavy set) (range_with_len 0 k))) (sym (add-one n)) ∙ ap length one ∙ length-append (filter (heavy set) (range_with_len 0 n)) (cond (heavy set n) (n ∷ []) [])
-    ∙ ap (λ k. k + length (cond (heavy set n) (n ∷ []) [])) (heavies_picked set n) ∙ ap (λ k. heavies set n + k) (last (heavy set n))
-  where
-    last : (b : Bool) → length (cond b (n ∷ []) []) ≡ cond b 1 0
-    last true = refl
-    last false = refl
-
-    one : filter (heavy set) (range_with_len 0 (n + 1)) ≡ filter (heavy set) (range_with_len 0 n) ++ cond (heavy set n) (n ∷ []) []
-    one =
-        ap (filter (heavy set)) (sym (map-id (range_with_len 0 (n + 1))))
-        ∙ filter_of_map_range_with_len_more (heavy set) (λ x. x) 0 n n (zero-add n)
-        ∙ ap (λ (xs : List ℕ). filter (heavy set) xs ++ cond (heavy set n) (n ∷ []) []) (map-id (range_with_len 0 n))
 
 -- what is known of the weight of model i + 1, for the slot i that it stands in
 pub slot_weight : (set : Set) (i weight : ℕ) → weight ≡ weight_of set (i + 1 - 1) → weight ≡ weight_of set i
 slot_weight set i weight e = let slot : i + 1 - 1 ≡ i = omega arith in e ∙ ap (weight_of set) slot
 
-module _ (set : Set) (i weight : ℕ) (r : Bool) (weighs : weight ≡ weight_of set i) (told : r ≡ is_heavy_weight set weight) where
+module _ (set : Set) (i weight : ℕ) (r : Bool) (weighs : weight ≡ weight_of set i) (told : r ≡ is_heavy_weight set.sizes weight) where
   heavy_is : (b : Bool) → r ≡ b → heavy set i ≡ b
-  heavy_is b e = ap (λ w. is_heavy_weight set w) (sym weighs) ∙ (sym told ∙ e)
+  heavy_is b e = ap (λ w. is_heavy_weight set.sizes w) (sym weighs) ∙ (sym told ∙ e)
 
   pub heavies_same : r ≡ false → heavies set (i + 1) ≡ heavies set i
   heavies_same e = rw (add-one i) (ap (λ n. heavies set i + n) (cond-false (heavy set i) 1 0 (heavy_is false e)) ∙ add-zero (heavies set i))
 
   -- a light model, tried at s
-  module _ (is-not : r ≡ false) (s : Cursor) (here : s ≡ cursor set i) (alone : ℕ) (all : alone ≡ alone_of set) where
+  module _ (is-not : r ≡ false) (s : Cursor) (here : s ≡ cursor set i) (alone : ℕ) (all : alone ≡ heavy_count_of set) where
     pub light_told : check (fits (grain_of set) s weight || not (eqb s.worker (worker_count_of set))) (no_room (i + 1)) None ≡ about_light set i
     light_told = rw (here, weighs, heavy_is false is-not) refl
 

@@ -8,7 +8,8 @@ use Rattle.plan.specs.declared.pieces.Pieces.TheVariants.{Whole, Divided}
 use Rattle.plan.specs.Shares.{on_worker, carried}
 use Rattle.set.proofs.Weights.{weighs}
 use Rattle.placement.specs.declared.cursors.Cursor.{Cursor}
-use Rattle.placement.specs.Rules.{fits, ends, seated, moved, heavy, heavies, alone_of, cursor, placed}
+use Rattle.set.specs.Heavy.{heavy, heavies, heavy_count_of}
+use Rattle.placement.specs.Rules.{fits, ends, seated, moved, cursor, placed}
 use Rattle.placement.proofs.Rises.{rises}
 use Rattle.placement.proofs.Carries.{whole_here, whole_else, split_first, split_second, split_else}
 
@@ -133,7 +134,7 @@ module _ (set : Set) where
   -- one model of the walk
   pub data Step (i : ℕ) : Type 0 where
     heavy_step : heavy set i ≡ true → heavies set (suc i) ≡ heavies set i + 1 → placed set i ≡ Whole (heavies set i + 1) (weight_of set i) → cursor set (suc i) ≡ cursor set i → Step i
-    light_step : heavy set i ≡ false → heavies set (suc i) ≡ heavies set i → Seat (alone_of set) (group_size_of set) (grain_of set) (cursor set i) (weight_of set i) (placed set i) (cursor set (suc i)) → Step i
+    light_step : heavy set i ≡ false → heavies set (suc i) ≡ heavies set i → Seat (heavy_count_of set) (group_size_of set) (grain_of set) (cursor set i) (weight_of set i) (placed set i) (cursor set (suc i)) → Step i
 
   pub step : (i : ℕ) → Step i
   step i =
@@ -144,20 +145,20 @@ module _ (set : Set) where
       (cond-true (heavy set i) _ _ yes'))
       (λ (no' : heavy set i ≡ false). light_step no'
       (ap (λ n. heavies set i + n) (cond-false (heavy set i) 1 0 no') ∙ add-zero (heavies set i))
-      (seat_at _ _ _ _ _ _ _ _ _ (cond-false (heavy set i) _ _ no') (cond-false (heavy set i) _ _ no') (seat_cases (alone_of set) (group_size_of set) (grain_of set) (cursor set i) (weight_of set i))))
+      (seat_at _ _ _ _ _ _ _ _ _ (cond-false (heavy set i) _ _ no') (cond-false (heavy set i) _ _ no') (seat_cases (heavy_count_of set) (group_size_of set) (grain_of set) (cursor set i) (weight_of set i))))
       (cases_Bool (heavy set i))
 
   -- what the workers carry before model i
   abbrev Walked : ℕ → Type 0
-  Walked i = Level (alone_of set) (grain_of set) (heavies set i) (cursor set i) (λ p. carried (placed set) p i)
+  Walked i = Level (heavy_count_of set) (grain_of set) (heavies set i) (cursor set i) (λ p. carried (placed set) p i)
 
   walks : (i : ℕ) → i < models_of set → Walked i → Step i → Walked (suc i)
   walks i h before (heavy_step is more x t) =
-      level_at (alone_of set) (grain_of set) (λ p. carried (placed set) p i) _ _ _ _ _ _ more t x
-      (level_heavy (alone_of set) (grain_of set) (heavies set i) (cursor set i) (λ p. carried (placed set) p i) before (weight_of set i) (weighs set i h).fits
+      level_at (heavy_count_of set) (grain_of set) (λ p. carried (placed set) p i) _ _ _ _ _ _ more t x
+      (level_heavy (heavy_count_of set) (grain_of set) (heavies set i) (cursor set i) (λ p. carried (placed set) p i) before (weight_of set i) (weighs set i h).fits
       (omega (arith, heavies_rise (models_of set) (suc i) h)))
   walks i h before (light_step no' same seat) =
-      level_light (alone_of set) (grain_of set) (heavies set i) (cursor set i) (λ p. carried (placed set) p i) before (weight_of set i) (weighs set i h).fits (group_size_of set) _ _ _ same seat
+      level_light (heavy_count_of set) (grain_of set) (heavies set i) (cursor set i) (λ p. carried (placed set) p i) before (weight_of set i) (weighs set i h).fits (group_size_of set) _ _ _ same seat
 
   pub walked : (i : ℕ) → i ≤ models_of set → Walked i
   walked zero h = record {

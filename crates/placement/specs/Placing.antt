@@ -8,7 +8,7 @@ use Rattle.setfile.specs.Reading.{Reads}
 use Rattle.plan.specs.declared.pieces.Pieces.{Pieces}
 use Rattle.plan.specs.declared.plans.Plan.{Plan}
 use Rattle.plan.specs.Shares.{pieces_at, nowhere}
-use Rattle.placement.specs.Rules.{about_placing, alone_of, placed, total_weight}
+use Rattle.placement.specs.Rules.{about_placing, placed, total_weight}
 
 -- the first n models are where the rules place them, and the slots behind them hold nothing
 pub record Seated (set : Set) (n : ℕ) (pieces : List Pieces) : Type 0 where
@@ -18,7 +18,6 @@ pub record Seated (set : Set) (n : ℕ) (pieces : List Pieces) : Type 0 where
 -- the plan of the set, by the rules; its loads are those of its pieces, as in every plan
 pub record Follows (set : Set) (plan : Plan) : Type 0 where
   pub same : plan.set ≡ set
-  pub alone' : plan.alone ≡ alone_of set
   pub seated' : Seated set (models_of set) plan.pieces
 
 abbrev pub Places : Set → Result Plan Refusal → Type 0

@@ -1,10 +1,11 @@
 -- The rules of placement. Workers and models are counted from 1; the model in slot i has the number i + 1.
-use Rattle.std.specs.Prelude.{ℕ, zero, suc, ◌+◌, ◌-◌, ◌*◌, ◌%◌, Bool, cond, not, ◌&&◌, ◌||◌, None, Option, ◌==◌, nat_le, nat_lt}
+use Rattle.std.specs.Prelude.{ℕ, zero, suc, ◌+◌, ◌-◌, ◌%◌, Bool, cond, not, ◌&&◌, ◌||◌, None, Option, ◌==◌, nat_le, nat_lt}
 use Rattle.refusal.specs.Refusals.{Complaint, number_of, check, first_below}
 use Rattle.refusal.specs.declared.Fault.TheVariants.{Heavy, Full}
 use Rattle.refusal.specs.declared.Layer.TheVariants.{Placement}
 use Rattle.set.specs.declared.sets.Set.{Set}
 use Rattle.set.specs.Sets.{models_of, worker_count_of, group_size_of, grain_of, weight_of}
+use Rattle.set.specs.Heavy.{heavy, heavies, heavy_count_of}
 use Rattle.plan.specs.declared.pieces.Pieces.{Pieces}
 use Rattle.plan.specs.declared.pieces.Pieces.TheVariants.{Whole, Divided}
 use Rattle.placement.specs.declared.cursors.Cursor.{Cursor}
@@ -39,45 +40,29 @@ abbrev pub too_heavy : ℕ → Complaint
 too_heavy count = record { number = number_of Heavy; layer = Placement; place = count }
 
 module _ (set : Set) where
-  -- a weight is heavy where a group has fewer than all workers, and it is more than k / (k + 1) of the grain
-  abbrev pub is_heavy_weight : ℕ → Bool
-  is_heavy_weight weight = nat_lt (group_size_of set) (worker_count_of set) && nat_lt (group_size_of set * grain_of set) (weight * (group_size_of set + 1))
-
-  abbrev pub heavy : ℕ → Bool
-  heavy i = is_heavy_weight (weight_of set i)
-
-  -- how many of the first n models are heavy
-  abbrev pub heavies : ℕ → ℕ
-  heavies zero = 0
-  heavies (suc n) = heavies n + cond (heavy n) 1 0
-
-  -- how many are heavy in all: so many workers are a group of one each
-  abbrev pub alone_of : ℕ
-  alone_of = heavies (models_of set)
-
   -- the worker that is being filled when model i comes, and its load by then: at first the one behind the heavy models'
   abbrev pub cursor : ℕ → Cursor
-  cursor zero = record { worker = alone_of + 1; load = 0 }
-  cursor (suc i) = cond (heavy i) (cursor i) (moved (cursor i) (seated alone_of (group_size_of set) (grain_of set) (cursor i) (weight_of set i)))
+  cursor zero = record { worker = heavy_count_of set + 1; load = 0 }
+  cursor (suc i) = cond (heavy set i) (cursor i) (moved (cursor i) (seated (heavy_count_of set) (group_size_of set) (grain_of set) (cursor i) (weight_of set i)))
 
   -- where model i goes: a heavy one alone on the next of the first workers
   abbrev pub placed : ℕ → Pieces
-  placed i = cond (heavy i) (Whole (heavies i + 1) (weight_of set i)) (seated alone_of (group_size_of set) (grain_of set) (cursor i) (weight_of set i))
+  placed i = cond (heavy set i) (Whole (heavies set i + 1) (weight_of set i)) (seated (heavy_count_of set) (group_size_of set) (grain_of set) (cursor i) (weight_of set i))
 
   -- the heavy models need a worker each, and the light ones, if any, at least one more
   abbrev pub room_for_light : Bool
-  room_for_light = nat_lt alone_of (worker_count_of set) || (alone_of == (worker_count_of set) && alone_of == (models_of set))
+  room_for_light = nat_lt (heavy_count_of set) (worker_count_of set) || (heavy_count_of set == worker_count_of set && heavy_count_of set == models_of set)
 
   -- a light model that does not fit on the last worker
   abbrev pub about_light : ℕ → Option Complaint
   about_light i =
-      check (heavy i || (fits (grain_of set) (cursor i) (weight_of set i) || not ((cursor i).worker == (worker_count_of set))))
+      check (heavy set i || (fits (grain_of set) (cursor i) (weight_of set i) || not ((cursor i).worker == worker_count_of set)))
       (no_room (i + 1)) None
 
   -- all that can be wrong with a set when it is placed, the first fault first
   abbrev pub about_placing : Option Complaint
   about_placing =
-      check room_for_light (too_heavy alone_of)
+      check room_for_light (too_heavy (heavy_count_of set))
       (first_below about_light (models_of set))
 
   -- the weight of the first n models

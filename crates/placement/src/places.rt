@@ -1,9 +1,9 @@
-ghost use Rattle.std.specs.Prelude.{◌≡◌, ℕ, ◌+◌, ◌^◌, ◌<◌, ◌≤◌, true, is_ok, length, slice_index};
+ghost use Rattle.std.specs.Prelude.{◌≡◌, ℕ, ◌+◌, ◌^◌, ◌<◌, ◌≤◌, true, is_ok, length, slice_index, None};
 ghost use Rattle.refusal.specs.Refusals.{Answers, first_below};
 ghost use Rattle.set.specs.Sets.{models_of};
 ghost use Rattle.plan.specs.Shares.{worker_of, last_of, on_worker, pieces_at, carried};
 ghost use Rattle.placement.specs.Rules.{placed, about_light};
-ghost use Rattle.placement.specs.Placing.{Places, Seated, Modest};
+ghost use Rattle.placement.specs.Placing.{Places, Follows, Seated, Modest};
 
 use crate::counted::Counted;
 use crate::seating::Walk;
@@ -22,12 +22,21 @@ pub fn place(set: &Set) -> Result<Plan, Refusal>
     let counted = Counted::new(set)?;
     let pieces = seat_all(&counted)?;
     let loads = loads_of(&pieces[..set.sizes.models as usize]);
-    Ok(Plan {
-        set: *set,
-        alone: counted.alone,
+    Ok(plan_of(&counted, pieces, loads))
+}
+
+/// The plan of a set whose models are in these places, with these loads.
+fn plan_of(counted: &Counted<'_>, pieces: [Pieces; MODELS], loads: [u32; WORKERS]) -> Plan
+    requires fine { first_below (about_light counted.now.set.now) (models_of counted.now.set.now) ≡ None }
+    requires seated { Seated counted.now.set.now (models_of counted.now.set.now) pieces }
+    requires loads { (p : ℕ) → p < 32 → slice_index loads p ≡ carried (pieces_at pieces) (p + 1) (models_of counted.now.set.now) }
+    ensures { Follows counted.now.set.now result }
+{
+    Plan {
+        set: *counted.set,
         pieces,
         loads,
-    })
+    }
 }
 
 /// Where each model goes, or a refusal for the first light one that finds no room.
@@ -61,17 +70,19 @@ fn loads_of(pieces: &[Pieces]) -> [u32; WORKERS]
 {
     let mut loads = [0; WORKERS];
     for model_pieces in pieces {
-        add_pieces(&mut loads, *model_pieces);
+        // through a name of its own: no proof is written for a call's result that goes straight into an array
+        let more = add_pieces(loads, *model_pieces);
+        loads = more;
     }
     loads
 }
 
-/// Adds what these pieces put on their workers.
-fn add_pieces(loads: &mut [u32; WORKERS], pieces: Pieces)
+/// These loads, and what the pieces put on their workers.
+fn add_pieces(mut loads: [u32; WORKERS], pieces: Pieces) -> [u32; WORKERS]
     requires first { 1 ≤ worker_of pieces }
     requires last { last_of pieces ≤ 32 }
-    requires room { (p : ℕ) → p < 32 → slice_index loads.old p + on_worker (p + 1) pieces < 2 ^ 32 }
-    ensures { (p : ℕ) → p < 32 → slice_index loads.new p ≡ slice_index loads.old p + on_worker (p + 1) pieces }
+    requires room { (p : ℕ) → p < 32 → slice_index loads p + on_worker (p + 1) pieces < 2 ^ 32 }
+    ensures { (p : ℕ) → p < 32 → slice_index result p ≡ slice_index loads p + on_worker (p + 1) pieces }
 {
     match pieces {
         Pieces::Whole { worker, size } => loads[worker as usize - 1] += size,
@@ -84,4 +95,5 @@ fn add_pieces(loads: &mut [u32; WORKERS], pieces: Pieces)
             loads[worker as usize] += second;
         }
     }
+    loads
 }

@@ -1,9 +1,10 @@
 ghost use Rattle.std.specs.Prelude.{◌≡◌, ◌+◌, ◌<◌, None, OnOk};
 ghost use Rattle.refusal.specs.Refusals.{Answers, first_below};
 ghost use Rattle.set.specs.Sets.{models_of};
-ghost use Rattle.placement.specs.Rules.{heavies, cursor, placed, about_light};
+ghost use Rattle.set.specs.Heavy.{heavies};
+ghost use Rattle.placement.specs.Rules.{cursor, placed, about_light};
 
-use crate::counted::{Counted, is_heavy, known_weight};
+use crate::counted::{Counted, known_weight};
 use crate::cursors::Cursor;
 use plan::pieces::Pieces;
 use refusal::Refusal;
@@ -41,7 +42,7 @@ impl Walk {
         ensures cursor { OnOk result (self.new.cursor ≡ cursor counted.now.set.now (i + 1)) }
     {
         let weight = known_weight(counted.set, i as u32 + 1);
-        if is_heavy(counted.set, weight) {
+        if counted.set.sizes.is_heavy(weight) {
             self.heavies += 1;
             return Ok(Pieces::Whole {
                 worker: self.heavies,

@@ -1,10 +1,10 @@
 -- The four facts that every plan has. Beside the limits of its set they are all that code above may use.
 use Rattle.std.specs.Prelude.{◌≡◌, ℕ, ◌+◌, ◌<◌, ◌≤◌, List, slice_index}
 use Rattle.set.specs.declared.sets.Set.{Set}
-use Rattle.set.specs.Sets.{models_of, worker_count_of, group_size_of, grain_of, weight_of}
+use Rattle.set.specs.Sets.{models_of, worker_count_of, grain_of, weight_of}
 use Rattle.plan.specs.declared.pieces.Pieces.{Pieces}
 use Rattle.plan.specs.Shares.{worker_of, last_of, first_of, second_of, pieces_at, carried}
-use Rattle.plan.specs.Groups.{group_of}
+use Rattle.plan.specs.Groups.{group_in}
 
 module _ (set : Set) (pieces : List Pieces) where
   -- 1. a load is the sum of its pieces, and at most the grain
@@ -15,8 +15,8 @@ module _ (set : Set) (pieces : List Pieces) where
   abbrev pub Shared : Type 0
   Shared = (i : ℕ) → i < models_of set → (1 ≤ worker_of (pieces_at pieces i)) × (last_of (pieces_at pieces i) ≤ worker_count_of set) × (first_of (pieces_at pieces i) + second_of (pieces_at pieces i) ≡ weight_of set i)
 
-  abbrev pub Grouped : ℕ → Type 0
-  Grouped alone = (i : ℕ) → i < models_of set → group_of alone (group_size_of set) (worker_of (pieces_at pieces i)) ≡ group_of alone (group_size_of set) (last_of (pieces_at pieces i))
+  abbrev pub Grouped : Type 0
+  Grouped = (i : ℕ) → i < models_of set → group_in set (worker_of (pieces_at pieces i)) ≡ group_in set (last_of (pieces_at pieces i))
 
   -- 3. a worker has at most one first and one second piece; the second is always on the next worker, so one follows from the other
   abbrev pub BothDivided : ℕ → ℕ → Type 0

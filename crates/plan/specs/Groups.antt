@@ -1,9 +1,16 @@
 -- How workers stand in groups: the first few one by one, the others k by k. All are counted from 1.
 use Rattle.std.specs.Prelude.{◌≡◌, ℕ, ◌+◌, ◌-◌, ◌/◌, ◌≤◌, cond, ◌≢◌, nat_le}
+use Rattle.set.specs.declared.sets.Set.{Set}
+use Rattle.set.specs.Sets.{group_size_of}
+use Rattle.set.specs.Heavy.{heavy_count_of}
 
 -- the group of worker p, where workers 1 to alone are groups of one
 abbrev pub group_of : ℕ → ℕ → ℕ → ℕ
 group_of alone k p = cond (nat_le p alone) p (alone + 1 + (p - alone - 1) / k)
+
+-- and by a set: each heavy model has a worker alone
+abbrev pub group_in : Set → ℕ → ℕ
+group_in set p = group_of (heavy_count_of set) (group_size_of set) p
 
 -- where each of m workers has a group, group g is just those from first to last
 pub record Group (group : ℕ → ℕ) (m g first last : ℕ) : Type 0 where

@@ -3,3 +3,4 @@ pub mod Weights
 pub mod Faults
 pub mod Arrays
 pub mod Sames
+pub mod Heavies

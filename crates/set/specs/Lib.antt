@@ -1,3 +1,4 @@
 pub mod Limits
 pub mod Models
 pub mod Sets
+pub mod Heavy

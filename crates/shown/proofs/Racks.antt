@@ -1,13 +1,14 @@
 -- The rack of a plan without heavy models, written out.
-use Rattle.std.proofs.Common.{◌≡◌, ℕ, zero, suc, ◌+◌, ◌-◌, ◌*◌, ◌/◌, List, [], ◌∷◌, length, None, ◌∙◌, arith}
+use Rattle.std.proofs.Common.{◌≡◌, ℕ, zero, suc, ◌+◌, ◌-◌, ◌*◌, ◌/◌, List, [], ◌∷◌, length, None, ap, ◌∙◌, arith}
 use Rattle.set.specs.declared.sets.Set.{Set}
 use Rattle.set.specs.Sets.{Made, models_of, worker_count_of, group_size_of, grain_of, period_of, parts_of, weight_of}
 use Rattle.set.specs.Models.{cost_at, period_at}
+use Rattle.set.specs.Heavy.{heavy_count_of}
 use Rattle.plan.specs.declared.pieces.Pieces.{Pieces}
 use Rattle.plan.specs.declared.plans.Plan.{Plan}
 use Rattle.plan.specs.Shares.{pieces_at}
 use Rattle.plan.specs.Groups.{group_of}
-use Rattle.placement.specs.Rules.{about_placing, alone_of, placed}
+use Rattle.placement.specs.Rules.{about_placing, placed}
 use Rattle.placement.specs.Placing.{Seated, Follows}
 use Rattle.book.specs.Racks.{Rack, rack_of}
 use Rattle.shown.specs.Examples.{Gives}
@@ -50,7 +51,7 @@ module _ (workers group grain : ℕ) (costs periods : List ℕ) (places : List P
     -- what the rules say of a set of these figures: nothing is refused, no model is heavy, and they are placed there
     pub record Rules (set : Set) (made : Made workers group grain costs periods set) : Type 0 where
       pub fits : about_placing (written set made holds) ≡ None
-      pub light : alone_of (written set made holds) ≡ 0
+      pub light : heavy_count_of (written set made holds) ≡ 0
       pub there : ArePlaced (written set made holds) 0 places
 
     -- what a book reads of every plan of such a set
@@ -65,7 +66,7 @@ module _ (workers group grain : ℕ) (costs periods : List ℕ) (places : List P
           models = models_of (follows.same j);
           workers = worker_count_of (follows.same j);
           grain = grain_of (follows.same j);
-          group = group_of ((follows.alone' ∙ rules.light) j) (group_size_of (follows.same j));
+          group = group_of ((ap heavy_count_of follows.same ∙ rules.light) j) (group_size_of (follows.same j));
           period = λ i. period_of (follows.same j) (i - 1);
           parts = λ i. parts_of (follows.same j) (i - 1);
           weight = λ i. weight_of (follows.same j) (i - 1);

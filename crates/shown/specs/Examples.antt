@@ -2,13 +2,18 @@
 use Rattle.std.specs.Prelude.{◌≡◌, ℕ, Bool, true, false, List, [], ◌∷◌, ◌++◌, length, map, replicate, None, Some, slice_index}
 use Rattle.std.specs.List.{range_with_len}
 use Rattle.std.proofs.Common.{arith}
+use Rattle.refusal.specs.Refusals.{number_of}
+use Rattle.refusal.specs.declared.Fault.{Fault}
+use Rattle.refusal.specs.declared.Fault.TheVariants.{Heavy, Full}
 use Rattle.refusal.specs.declared.Layer.TheVariants.{Placement}
 use Rattle.set.specs.declared.sets.Set.{Set}
-use Rattle.set.specs.Sets.{Made, worker_count_of, group_size_of, grain_of}
+use Rattle.set.specs.Sets.{Made, worker_count_of}
+use Rattle.set.specs.Heavy.{is_heavy_weight}
+use Rattle.set.specs.declared.sizes.Sizes.{Sizes}
 use Rattle.plan.specs.declared.pieces.Pieces.TheVariants.{Whole}
 use Rattle.plan.specs.declared.plans.Plan.{Plan}
 use Rattle.plan.specs.Shares.{pieces_at}
-use Rattle.placement.specs.Rules.{about_placing, is_heavy_weight}
+use Rattle.placement.specs.Rules.{about_placing}
 use Rattle.placement.specs.Placing.{Follows}
 use Rattle.order.specs.Keys.{by_keys}
 use Rattle.kinds.specs.Keys.{keys_by_model}
@@ -25,9 +30,9 @@ module _ (workers group grain : ℕ) (weights : List ℕ) where
   abbrev pub Weighing : Set → Type 0
   Weighing set = Made workers group grain weights (replicate (length weights) grain) set
 
-  -- placement refuses such a set, with this number and place
-  abbrev pub Refuses : (number place : ℕ) → Type 0
-  Refuses number place = (set : Set) → Weighing set → about_placing set ≡ Some (record { number = number; layer = Placement; place = place })
+  -- placement refuses such a set, for this fault and with this place
+  abbrev pub Refuses : Fault → (place : ℕ) → Type 0
+  Refuses fault place = (set : Set) → Weighing set → about_placing set ≡ Some (record { number = number_of fault; layer = Placement; place = place })
 
 -- placement refuses nothing of such sets, and P says something of every plan by the rules
 abbrev pub Gives : (Set → Type 0) → (Plan → Type 0) → Type 0
@@ -102,18 +107,18 @@ pub record Examples : Type 0 where
       GivesThree (LeadsThree blank (advance ∷ advance ∷ []) (Advanced first_sheet ∷ Advanced second_sheet ∷ []) (entered (entered blank first_sheet) second_sheet))
       × (words_of second_sheet ≡ 2 ∷ 2 ∷ 3 ∷ 60 ∷ 100 ∷ 20 ∷ 80 ∷ 100 ∷ 1 ∷ 2 ∷ 2 ∷ 3 ∷ 0 ∷ [])
   -- with two workers to a group, two thirds of the grain are light, and one part more is heavy
-  pub two_thirds : (set : Set) → worker_count_of set ≡ 3 → group_size_of set ≡ 2 → grain_of set ≡ 12 → (is_heavy_weight set 8 ≡ false) × (is_heavy_weight set 9 ≡ true)
+  pub two_thirds : (sizes : Sizes) → sizes.workers ≡ 3 → sizes.group_size ≡ 2 → sizes.grain ≡ 12 → (is_heavy_weight sizes 8 ≡ false) × (is_heavy_weight sizes 9 ≡ true)
   -- two workers are full, and the third has nothing
   pub third_idle : Gives (Weighing 3 2 12 (8 ∷ 8 ∷ 8 ∷ [])) (λ plan. loads_of plan ≡ 12 ∷ 12 ∷ 0 ∷ [])
   -- both workers are full
   pub filled : Gives (Weighing 2 2 10 (6 ∷ 6 ∷ 8 ∷ [])) (λ plan. loads_of plan ≡ 10 ∷ 10 ∷ [])
   -- one part more, and the third model finds no room
-  pub too_full : Refuses 2 2 10 (6 ∷ 6 ∷ 9 ∷ []) 7 3
+  pub too_full : Refuses 2 2 10 (6 ∷ 6 ∷ 9 ∷ []) Full 3
   -- where a worker is full, the next model is whole on the next
   pub next_worker : Gives (Weighing 2 2 10 (10 ∷ 3 ∷ [])) (λ plan. pieces_at plan.pieces 1 ≡ Whole 2 3)
   -- where a group ends, too: no model is divided between groups
   pub next_group : Gives (Weighing 2 1 10 (4 ∷ 4 ∷ 4 ∷ [])) (λ plan. pieces_at plan.pieces 2 ≡ Whole 2 4)
   -- three heavy models on two workers
-  pub three_heavy : Refuses 2 1 10 (6 ∷ 6 ∷ 6 ∷ []) 6 3
+  pub three_heavy : Refuses 2 1 10 (6 ∷ 6 ∷ 6 ∷ []) Heavy 3
   -- two heavy models, which leave no worker for a light one
-  pub two_heavy : Refuses 2 1 10 (6 ∷ 6 ∷ 1 ∷ []) 6 2
+  pub two_heavy : Refuses 2 1 10 (6 ∷ 6 ∷ 1 ∷ []) Heavy 2

@@ -1,7 +1,11 @@
 -- Further examples of the plain book.
 use Rattle.std.specs.Prelude.{◌≡◌, ℕ, ◌^◌, ℤ, pos, neg_ℤ, Bool, if◌then◌else◌, List, [], ◌∷◌, ◌++◌, Some, replicate, ◌==◌}
 use Rattle.std.proofs.Common.{arith}
-use Rattle.refusal.specs.declared.Layer.TheVariants.{Opening, Running}
+use Rattle.refusal.specs.Refusals.{number_of, place_of_lent}
+use Rattle.refusal.specs.declared.Fault.{Fault}
+use Rattle.refusal.specs.declared.Fault.TheVariants as fault
+use Rattle.refusal.specs.declared.Layer.TheVariants.{Opening}
+use Rattle.refusal.specs.declared.Lent.TheVariants as lent
 use Rattle.set.specs.Sets.{Made}
 use Rattle.plan.specs.declared.plans.Plan.{Plan}
 use Rattle.order.specs.Keys.{by_keys}
@@ -12,10 +16,12 @@ use Rattle.dates.specs.Lists.{listed_spacings}
 use Rattle.dates.specs.Phases.{no_phase, phase_dates, phase_spacings}
 use Rattle.standing.specs.declared.Phase.{Phase as Doing}
 use Rattle.standing.specs.declared.Phase.TheVariants.{Waiting, Live, Withdrawn}
+use Rattle.standing.specs.Standings.{phase_number}
 use Rattle.book.specs.Racks.{rack_of}
-use Rattle.book.specs.Sheets.{Sheet}
+use Rattle.book.specs.Sheets.{Sheet, words_of}
 use Rattle.book.specs.Books.{Book, blank}
-use Rattle.book.specs.Calls.{Call, Answer, Advance, Withdraw, AskStanding, Advanced, Withdrew, Stands, Refused, Leads, numbers_of, about_opening}
+use Rattle.book.specs.Calls.{Call, Answer, Advance, Withdraw, AskStanding, Advanced, Withdrew, Stands, Refused, Leads, numbers_of, about_opening, running}
+use Rattle.book.specs.Buffers.{words_after}
 use Rattle.book.specs.Laws.{Lawful}
 use Rattle.shown.specs.Examples.{Weighing, Gives, GivesThree, every_ten, phases_of_three, advance, first_sheet, second_sheet}
 
@@ -25,13 +31,20 @@ pub record Plays (plan : Plan) (phases : List Phase) (precedes : Run → Run →
   pub end : Book
   pub led : Leads (rack_of plan) (phase_dates phases) precedes blank calls answers end
 
--- the running roster refuses a call, with this number and place
-abbrev pub refused : (number place : ℕ) → Answer
-refused number place = Refused (record { number = number; layer = Running; place = place })
+-- the running roster refuses a call, for this fault and with this place
+abbrev pub refused : Fault → (place : ℕ) → Answer
+refused fault place = Refused (running fault place)
+
+-- it refuses an advance that is lent too little for a sheet, or too little scratch
+abbrev pub short_of_words : Answer
+short_of_words = refused fault.Memory (place_of_lent lent.Sheet)
+
+abbrev pub short_of_scratch : Answer
+short_of_scratch = refused fault.Memory (place_of_lent lent.Scratch)
 
 -- it says how a model stands: what it is doing, the date of its run, what the run has got, and its lag
 abbrev pub stands : Doing → (date served : ℕ) → (lag : ℤ) → Answer
-stands doing date served lag = Stands (record { phase = doing; date = date; served = served; lag = lag })
+stands doing date served lag = Stands (record { phase = phase_number doing; date = date; served = served; lag = lag })
 
 -- the three models' roster
 abbrev pub PlaysThree : List Call → List Answer → Plan → Type 0
@@ -135,12 +148,12 @@ pub record Further : Type 0 where
   pub withdrawn_piece :
       GivesThree (PlaysThree
       (advance ∷ Withdraw 2 ∷ advance ∷ Withdraw 1 ∷ Withdraw 3 ∷ advance ∷ [])
-      (Advanced first_sheet ∷ Withdrew ∷ Advanced idle_sheet ∷ Withdrew ∷ Withdrew ∷ refused 12 1 ∷ []))
+      (Advanced first_sheet ∷ Withdrew ∷ Advanced idle_sheet ∷ Withdrew ∷ Withdrew ∷ refused fault.Moment 1 ∷ []))
   -- what is refused, and the first fault of a call that has two; neither a refusal nor a standing changes what is answered later
   pub refusals :
       GivesThree (PlaysThree
       (Advance 1 511 64 ∷ Advance 1 512 63 ∷ Advance 2 511 63 ∷ Advance 0 512 64 ∷ Advance 1 511 63 ∷ Withdraw 0 ∷ Withdraw 4 ∷ AskStanding 2 ∷ advance ∷ AskStanding 4 ∷ Withdraw 1 ∷ Withdraw 1 ∷ AskStanding 1 ∷ AskStanding 2 ∷ [])
-      (refused 10 1 ∷ refused 10 2 ∷ refused 9 2 ∷ refused 9 0 ∷ refused 10 1 ∷ refused 11 0 ∷ refused 11 4 ∷ stands Live 0 0 (pos 0) ∷ Advanced first_sheet ∷ refused 11 4 ∷ Withdrew ∷ refused 13 1 ∷ stands Withdrawn 0 0 (pos 0) ∷ stands Live 10 0 (pos 0) ∷ []))
+      (short_of_words ∷ short_of_scratch ∷ refused fault.Group 2 ∷ refused fault.Group 0 ∷ short_of_words ∷ refused fault.Model 0 ∷ refused fault.Model 4 ∷ stands Live 0 0 (pos 0) ∷ Advanced first_sheet ∷ refused fault.Model 4 ∷ Withdrew ∷ refused fault.Withdrawn 1 ∷ stands Withdrawn 0 0 (pos 0) ∷ stands Live 10 0 (pos 0) ∷ []))
   -- an interval ends at a deadline that is no date; by then one model is ahead, one waits, and one is behind; after it a new run begins, with nothing
   pub not_a_date :
       GivesOne (λ plan. Plays plan phases_of_one (by_keys keys_by_model)
@@ -160,7 +173,7 @@ pub record Further : Type 0 where
   pub two_groups :
       GivesFour (λ plan. Plays plan phases_of_four (by_keys keys_by_model)
       (Advance 2 512 64 ∷ advance ∷ Advance 3 512 64 ∷ [])
-      (Advanced other_sheet ∷ Advanced first_sheet ∷ refused 9 3 ∷ []))
+      (Advanced other_sheet ∷ Advanced first_sheet ∷ refused fault.Group 3 ∷ []))
   -- what counts is what is left: model 1 needs 60 parts in all, but only 10 more when model 2 comes and needs 20
   pub fewer_left :
       GivesTwo (λ plan. Plays plan phases_of_two (by_keys keys_by_remaining)
@@ -172,6 +185,8 @@ pub record Further : Type 0 where
       (advance ∷ [])
       (Advanced pieces_sheet ∷ []))
   -- no roster is opened over dates that may lie nearer than the period
-  pub too_near : GivesThree (λ plan. about_opening (rack_of plan) spacings_near ≡ Some (record { number = 8; layer = Opening; place = 2 }))
+  pub too_near : GivesThree (λ plan. about_opening (rack_of plan) spacings_near ≡ Some (record { number = number_of fault.Spacing; layer = Opening; place = 2 }))
   -- start, end, first worker and number of words
   pub numbers : (numbers_of first_sheet ≡ (0, 10, 1, 13)) × (numbers_of second_sheet ≡ (10, 20, 1, 13)) × (numbers_of other_sheet ≡ (0, 10, 3, 6))
+  -- of 15 words that held 7 an advance leaves its own 13 and the last two as they were, and a refused one leaves all
+  pub left_behind : (words_after (Advanced first_sheet) (replicate 15 7) ≡ words_of first_sheet ++ 7 ∷ 7 ∷ []) × (words_after (refused fault.Moment 1) (replicate 15 7) ≡ replicate 15 7)

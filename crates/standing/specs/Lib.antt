@@ -1,1 +1,1 @@
-pub mod Phases
+pub mod Standings

@@ -2,7 +2,7 @@
 #![tactic(auto)]
 
 ghost use Rattle.std.specs.Prelude.{◌≡◌};
-ghost use Rattle.standing.specs.Phases.{phase_number};
+ghost use Rattle.standing.specs.Standings.{phase_number};
 
 /// What a model is doing.
 #[derive(Clone, Copy, Debug, PartialEq, Eq, Hash)]

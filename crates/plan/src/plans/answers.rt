@@ -1,8 +1,8 @@
 ghost use Rattle.std.specs.Prelude.{◌≡◌, ◌-◌, ◌<◌, MatchOption, slice_index};
 ghost use Rattle.set.specs.Sets.{OfModel, worker_count_of};
 ghost use Rattle.plan.specs.Shares.{pieces_at, worker_of};
-ghost use Rattle.plan.specs.Groups.{Group, NoGroup, Counts};
-ghost use Rattle.plan.specs.Answers.{Worker, group_in};
+ghost use Rattle.plan.specs.Groups.{group_in, Group, NoGroup, Counts};
+ghost use Rattle.plan.specs.Answers.{Worker};
 
 use super::Plan;
 use crate::groups::{Grouping, Workers};
@@ -44,33 +44,30 @@ impl Plan {
 
     /// How many groups there are.
     pub fn group_count(&self) -> u32
-        ensures { Counts (group_in self.now) (worker_count_of self.now.set) result }
+        ensures { Counts (group_in self.now.set) (worker_count_of self.now.set) result }
     {
         self.grouping().count()
     }
 
     /// The first and the last worker of a group.
     pub fn workers_in(&self, group: u32) -> Option<Workers>
-        ensures { MatchOption result (NoGroup (group_in self.now) (worker_count_of self.now.set) group) (λ w. Group (group_in self.now) (worker_count_of self.now.set) group w.first w.last) }
+        ensures { MatchOption result (NoGroup (group_in self.now.set) (worker_count_of self.now.set) group) (λ w. Group (group_in self.now.set) (worker_count_of self.now.set) group w.first w.last) }
     {
         self.grouping().workers_in(group)
     }
 
     /// The group that a model runs in.
     pub fn group_of(&self, model: u32) -> Option<u32>
-        ensures { OfModel self.now.set model result (λ g. g ≡ group_in self.now (worker_of (pieces_at self.now.pieces (model - 1)))) }
+        ensures { OfModel self.now.set model result (λ g. g ≡ group_in self.now.set (worker_of (pieces_at self.now.pieces (model - 1)))) }
     {
         let worker = self.pieces_of(model)?.worker();
         Some(self.grouping().group_of(worker))
     }
 
-    /// How the plan's workers stand in groups.
-    fn grouping(&self) -> Grouping
-        ensures { result ≡ record { alone = self.now.alone; sizes = self.now.set.sizes } }
+    /// How the plan's workers stand in groups. The three calls above ask it anew; who asks often keeps it.
+    pub fn grouping(&self) -> Grouping<'_>
+        ensures { result.set.now ≡ self.now.set }
     {
-        Grouping {
-            alone: self.alone,
-            sizes: self.set.sizes,
-        }
+        Grouping::new(&self.set)
     }
 }

@@ -1,5 +1,6 @@
 ghost use Rattle.std.specs.Prelude.{◌≡◌, ◌-◌};
 ghost use Rattle.set.specs.Sets.{OfModel, Weighs, parts_of};
+ghost use Rattle.set.specs.Heavy.{heavy_count_of};
 
 use super::Set;
 
@@ -29,5 +30,17 @@ impl Set {
     {
         let i = self.slot(model)?;
         Some(self.models[i].run_parts(self.sizes.grain))
+    }
+
+    /// How many models are heavy. It looks at each model once.
+    pub fn heavy_count(&self) -> u32
+        ensures { result ≡ heavy_count_of self.now }
+    {
+        (0..self.sizes.models as usize)
+            .filter(|&i| {
+                let weight = self.models[i].weight(self.sizes.grain);
+                self.sizes.is_heavy(weight)
+            })
+            .count() as u32
     }
 }

@@ -1,6 +1,7 @@
 ghost use Rattle.std.specs.Prelude.{◌≡◌, None};
 ghost use Rattle.refusal.specs.Refusals.{Answers, check, told};
 ghost use Rattle.set.specs.Limits.{about_sizes, bad_size, within};
+ghost use Rattle.set.specs.Heavy.{is_heavy_weight};
 
 use super::{GRAIN, MODELS, SizeKind, Sizes, WORKERS};
 use refusal::{Fault, Layer, Refusal};
@@ -20,6 +21,14 @@ impl Sizes {
             group_size,
             grain,
         })
+    }
+
+    /// Whether a model of this weight is heavy: a group of k workers has fewer than all, and it takes more than k / (k + 1) of a worker.
+    pub fn is_heavy(self, weight: u32) -> bool
+        ensures { result ≡ is_heavy_weight self weight }
+    {
+        let k = self.group_size as u64;
+        self.group_size < self.workers && weight as u64 * (k + 1) > k * self.grain as u64
     }
 }
 

@@ -10,7 +10,7 @@ pub returns : goal.returns
 returns c = record {
   first_advance = (gives_three _ (λ plan is. (opens_three plan is, leads_three (also (advances _ _ _ _ refl first_next) (ends _)) plan is)), refl);
   second_advance = (gives_three _ (leads_three (also (advances _ _ _ _ refl first_next) (also (advances _ _ _ _ refl second_next) (ends _)))), refl);
-  two_thirds = λ set workers group grain. (λ i. heavy_by (workers i) (group i) (grain i) 8, λ i. heavy_by (workers i) (group i) (grain i) 9);
+  two_thirds = λ sizes workers group grain. (λ i. heavy_by (workers i) (group i) (grain i) 8, λ i. heavy_by (workers i) (group i) (grain i) 9);
   third_idle = λ set made. rw (is_written set made (refl, refl)) (refl, loads_placed _);
   filled = λ set made. rw (is_written set made (refl, refl)) (refl, loads_placed _);
   too_full = λ set made. rw (is_written set made (refl, refl)) refl;

@@ -61,4 +61,5 @@ returns c = record {
   idle_pieces = plays_full (also (advances _ _ _ _ refl pieces_next) (ends _));
   too_near = gives_three _ (λ plan is. ap (λ r. about_opening r spacings_near) is);
   numbers = (refl, refl, refl);
+  left_behind = (refl, refl);
 }

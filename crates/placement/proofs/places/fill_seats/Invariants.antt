@@ -1,7 +1,8 @@
 use Rattle.std.proofs.Common.{◌≡◌, ℕ, ◌<◌, None}
 use Rattle.refusal.specs.Refusals.{first_below}
 use Rattle.plan.specs.Shares.{pieces_at}
-use Rattle.placement.specs.Rules.{heavies, cursor, placed, about_light}
+use Rattle.set.specs.Heavy.{heavies}
+use Rattle.placement.specs.Rules.{cursor, placed, about_light}
 use Rattle.placement.proofs.places.fill_seats.Given as goal
 
 -- the models so far are placed, and none of them was refused

@@ -7,8 +7,8 @@ use Rattle.placement.proofs.places.loads_of.Goals as goal
 pub loop-model_pieces-init : goal.loop-model_pieces-init
 loop-model_pieces-init c p h = get_or_blank 32 p 0
 
-pub add_pieces-requires : goal.add_pieces-requires
-add_pieces-requires c =
+pub add_pieces-more-requires : goal.add_pieces-more-requires
+add_pieces-more-requires c =
     let pieces = pieces_at c.args.pieces.now in
     let i = c.loop-model_pieces.model_pieces-index in
     record {

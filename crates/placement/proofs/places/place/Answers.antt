@@ -7,7 +7,7 @@ use Rattle.set.specs.Sets.{models_of}
 use Rattle.placement.specs.Rules.{about_placing, room_for_light}
 use Rattle.placement.proofs.Bounds.{never_refused}
 use Rattle.placement.proofs.Carries.{pieces_in_front, carried_in_front}
-use Rattle.placement.proofs.Facts.{within, room, loaded, shared, grouped, one_first_piece, one_second_piece, positive}
+use Rattle.placement.proofs.Facts.{within, room}
 use Rattle.placement.proofs.places.place.Goals as goal
 
 pub returns-in_err-counted : goal.returns-in_err-counted
@@ -43,22 +43,10 @@ loads_of-loads-requires c =
       room = λ p. rw (carried_in_front pieces n p front) (room set pieces seated.1 ok seated.0 p);
     }
 
-pub invariant_of-result : goal.invariant_of-result
-invariant_of-result c =
+pub plan_of-requires-clause-loads : goal.plan_of-requires-clause-loads
+plan_of-requires-clause-loads c p h =
     let set = c.args.set.now in
-    let n = models_of set in
     let pieces = c.in_ok-pieces.pieces in
-    let counted = c.in_ok-counted.counted in
-    let is = c.in_ok-counted.ensures.1 in
-    let ok : room_for_light set ≡ true = rw is at counted.roomy in
-    let seated = rw is at c.in_ok-pieces.ensures in
     let full : length pieces ≡ 64 = omega arith in
-    let front : n ≤ length pieces = omega (arith, set.sizes.few_models) in
-    record {
-      loaded = loaded set pieces seated.1 ok seated.0 c.loads_of-loads.result (λ p h. c.loads_of-loads.ensures p h ∙ carried_in_front pieces n (p + 1) front);
-      shared = shared set pieces seated.1 ok seated.0;
-      grouped = grouped set pieces seated.1 ok seated.0 counted.alone (rw is at counted.heavy);
-      one_first = one_first_piece set pieces seated.1 ok seated.0;
-      one_second = one_second_piece set pieces seated.1 ok seated.0;
-      positive = positive set pieces seated.1 ok seated.0;
-    }
+    let front : models_of set ≤ length pieces = omega (arith, set.sizes.few_models) in
+    rw c.in_ok-counted.ensures.1 (c.loads_of-loads.ensures p h ∙ carried_in_front pieces (models_of set) (p + 1) front)
