@@ -98,19 +98,19 @@ def put(model, moment, parts):
 def edges():
     """Lists of calls at the edges of what a queue is lent, and numbers at the edges of their widths."""
     for order in KEYS:
-        yield f"{order} 0 - =3 {put(1, 1, 1)} -"
-        yield f"{order} 1 - {put(1, 1, 1)} {put(2, 0, 1)} - - {put(2, 0, 1)} =0 =2 -"
-        yield f"{order} 2 {put(2, 7, 5)} {put(1, 7, 5)} {put(3, 0, 0)} - {put(3, 0, 0)} =2 -"
-        yield f"{order} 3 {put(9, 2**32 - 1, 0)} {put(2**32 - 1, 0, 2**64 - 1)} {put(1, 0, 2**64 - 1)} =3"
+        yield f"{order} 0 - {put(1, 1, 1)} -"
+        yield f"{order} 1 - {put(1, 1, 1)} {put(2, 0, 1)} - - {put(2, 0, 1)} - - -"
+        yield f"{order} 2 {put(2, 7, 5)} {put(1, 7, 5)} {put(3, 0, 0)} - {put(3, 0, 0)} - - -"
+        yield f"{order} 3 {put(9, 2**32 - 1, 0)} {put(2**32 - 1, 0, 2**64 - 1)} {put(1, 0, 2**64 - 1)} - - -"
         # numbers that narrower or signed words would not keep apart
         models = zip([2**31, 2**16, 1, 2**8, 2**32 - 1], [2**32, 2**63, 2**64 - 1, 2**32 - 1, 0])
-        yield f"{order} 5 {' '.join(put(model, 0, parts) for model, parts in models)} =5"
+        yield f"{order} 5 {' '.join(put(model, 0, parts) for model, parts in models)} - - - - -"
         moments = enumerate([2**31, 2**16, 2**32 - 1, 2**8, 1], start=1)
-        yield f"{order} 5 {' '.join(put(model, moment, 0) for model, moment in moments)} =5"
+        yield f"{order} 5 {' '.join(put(model, moment, 0) for model, moment in moments)} - - - - -"
         for moments in (range(64), range(63, -1, -1), [7] * 64):
             things = [put(i + 1, moment, 64 - i) for i, moment in enumerate(moments)]
-            yield f"{order} 64 {' '.join(things)} {put(1, 1, 1)} =10 - - =64 -"
-        yield f"{order} 64 {' '.join([put(5, 5, 5)] * 64)} =64"
+            yield f"{order} 64 {' '.join(things)} {put(1, 1, 1)}{' -' * 65}"
+        yield f"{order} 64 {' '.join([put(5, 5, 5)] * 64)}{' -' * 64}"
 
 
 def drawn_calls(source, order):
@@ -122,8 +122,8 @@ def drawn_calls(source, order):
         model, moment = source.randint(1, models), source.randrange(moments)
         # by model alone, it is open which of two runs comes first that differ in their parts alone
         parts = 64 - model if order == "model" else source.randint(1, most_parts)
-        calls.append(source.choices([put(model, moment, parts), "-", f"={source.randint(0, slots + 1)}"], [20, 9, 1])[0])
-    calls.append(f"={source.choice([slots, slots // 2])}")
+        calls += source.choices([[put(model, moment, parts)], ["-"], ["-"] * source.randint(0, slots + 1)], [20, 9, 1])[0]
+    calls += ["-"] * source.choice([slots, slots // 2])
     return f"{order} {slots} {' '.join(calls)}"
 
 

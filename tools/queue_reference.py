@@ -17,12 +17,6 @@ def answer_of(line):
     order, slots, *calls = line.split()
     keys, slots = KEYS[order], int(slots)
     held, answers, most_held = [], [], 0
-
-    def take():
-        first = min(held, key=keys)
-        held.remove(first)
-        answers.append("{},{},{}".format(*first))
-
     for call in calls:
         if call[0] == "+":
             if len(held) == slots:
@@ -31,13 +25,12 @@ def answer_of(line):
                 model, moment, parts = map(int, call[1:].split(","))
                 held.append((model, moment, 0 if order == "tick" else parts))
                 answers.append("put")
-        elif call[0] == "=":
-            for _ in range(min(int(call[1:]), len(held))):
-                take()
         elif call != "-":
             raise ValueError(call)
         elif held:
-            take()
+            first = min(held, key=keys)
+            held.remove(first)
+            answers.append("{},{},{}".format(*first))
         else:
             answers.append("none")
         most_held = max(most_held, len(held))

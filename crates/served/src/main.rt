@@ -1,9 +1,9 @@
 //! Plays many lists of calls on queues: each line of standard input is one, and is answered by a line.
 //!
 //! A line begins with the name of an order, `tick`, `model` or `remaining`, and the number of slots that are lent.
-//! Then come the calls: `+M,T,R` puts the thing of model M with moment T and R parts remaining (an entry has no R), `-` takes a thing, and `=N` drains at most N.
+//! Then come the calls: `+M,T,R` puts the thing of model M with moment T and R parts remaining (an entry has no R), and `-` takes a thing.
 //!
-//! A put is answered by `put` or `full`, a take by the thing or `none`, a drain by its things; the R of an entry is 0.
+//! A put is answered by `put` or `full`, a take by the thing or `none`; the R of an entry is 0.
 //! Then the line ends in `holds`, how many things are held, `untouched`, and how many slots are as they were lent: those that no put ever reached.
 #![tactic(auto)]
 
@@ -21,7 +21,6 @@ mod numbers;
 
 /// Makes one call, and writes its answer.
 fn make_call<T: Copy + From<Numbers> + Into<Numbers>, O: Order<Item = T>, W: Write>(
-    heap: Global,
     order: &O,
     queue: &mut Queue<'_, T>,
     call: &str,
@@ -32,13 +31,6 @@ fn make_call<T: Copy + From<Numbers> + Into<Numbers>, O: Order<Item = T>, W: Wri
         match queue.put(order, thing.into()) {
             Ok(()) => write!(out, "put ")?,
             Err(Full) => write!(out, "full ")?,
-        }
-    } else if let Some(most) = call.strip_prefix('=') {
-        let mut drained = vec![in heap; T::from(Numbers::default()); most.parse()?]?;
-        let count = queue.drain(order, &mut drained);
-        for thing in &drained[..count] {
-            let thing: Numbers = (*thing).into();
-            write!(out, "{thing} ")?;
         }
     } else if call != "-" {
         bail!("no such call: {call}");
@@ -63,7 +55,7 @@ fn make_calls<T: Copy + From<Numbers> + Into<Numbers>, O: Order<Item = T>, W: Wr
     let mut slots = vec![in heap; T::from(blank); lent]?;
     let mut queue = Queue::new(&mut slots);
     for call in calls {
-        make_call(heap, order, &mut queue, call, out)?;
+        make_call(order, &mut queue, call, out)?;
     }
     let held = queue.len();
     let untouched = slots.iter().filter(|slot| (**slot).into() == blank).count();
