@@ -32,18 +32,19 @@ fn runs_of_equal_deadlines(rt: HostRuntime) -> Result<(), Fail> {
     ];
     let [four, two, three, one, five] = runs;
     let mut slots = runs;
-    let mut out = runs;
     let mut queue = Queue::new(&mut slots);
     for waiting in runs {
         queue.put(&ByModel, waiting)?;
     }
-    assert_eq!(rt; queue.drain(&ByModel, &mut out), 5);
-    assert_eq!(rt; out, [two, three, five, one, four]);
+    for first in [two, three, five, one, four] {
+        assert_eq!(rt; queue.take(&ByModel), Some(first));
+    }
     for waiting in runs {
         queue.put(&ByRemaining, waiting)?;
     }
-    assert_eq!(rt; queue.drain(&ByRemaining, &mut out), 5);
-    assert_eq!(rt; out, [three, five, two, one, four]);
+    for first in [three, five, two, one, four] {
+        assert_eq!(rt; queue.take(&ByRemaining), Some(first));
+    }
     Ok(())
 }
 
@@ -51,19 +52,13 @@ fn runs_of_equal_deadlines(rt: HostRuntime) -> Result<(), Fail> {
 fn entries_of_equal_ticks(rt: HostRuntime) -> Result<(), Fail> {
     let blank = entry(5, 5);
     let mut slots = [blank; 8];
-    let mut out = [blank; 6];
     let mut queue = Queue::new(&mut slots);
     for (tick, model) in [(9, 2), (0, 7), (9, 1), (0, 3), (9, 1), (0, 64)] {
         queue.put(&ByTick, entry(tick, model))?;
     }
-    assert_eq!(rt; queue.drain(&ByTick, &mut out[..4]), 4);
-    let four = [entry(0, 3), entry(0, 7), entry(0, 64), entry(9, 1)];
-    assert_eq!(rt; out, [four[0], four[1], four[2], four[3], blank, blank]);
-    assert_eq!(rt; queue.drain(&ByTick, &mut out), 2);
-    assert_eq!(rt;
-        out,
-        [entry(9, 1), entry(9, 2), four[2], four[3], blank, blank]
-    );
+    for (tick, model) in [(0, 3), (0, 7), (0, 64), (9, 1), (9, 1), (9, 2)] {
+        assert_eq!(rt; queue.take(&ByTick), Some(entry(tick, model)));
+    }
     assert_eq!(rt; [slots[6], slots[7]], [blank; 2]);
     Ok(())
 }
@@ -101,20 +96,24 @@ fn full_and_empty(rt: HostRuntime) {
 fn orders_that_change(rt: HostRuntime) -> Result<(), Fail> {
     let runs = [run(1, 9, 4), run(2, 9, 3), run(3, 9, 2), run(4, 9, 1)];
     let mut slots = [run(0, 0, 0); 4];
-    let mut out = [run(0, 0, 0); 4];
     let mut queue = Queue::new(&mut slots);
     queue.put(&ByModel, runs[1])?;
     queue.put(&ByRemaining, runs[3])?;
     queue.put(&ByModel, runs[0])?;
     queue.put(&ByRemaining, runs[2])?;
-    let taken = queue.take(&ByModel);
-    assert_eq!(rt; queue.drain(&ByRemaining, &mut out), 3);
+    let taken = [
+        queue.take(&ByModel),
+        queue.take(&ByRemaining),
+        queue.take(&ByRemaining),
+        queue.take(&ByRemaining),
+    ];
     // nothing was lost, and an empty queue stands in every order
-    for waiting in out[..3].iter().copied().chain(taken) {
+    for waiting in taken.into_iter().flatten() {
         queue.put(&ByModel, waiting)?;
     }
-    assert_eq!(rt; queue.drain(&ByModel, &mut out), 4);
-    assert_eq!(rt; out, runs);
+    for first in runs {
+        assert_eq!(rt; queue.take(&ByModel), Some(first));
+    }
     Ok(())
 }
 
