@@ -14,7 +14,7 @@ use Rattle.kinds.specs.declared.entries.Entry.{Entry}
 use Rattle.queue.specs.Heaps.{Unpreceded}
 use Rattle.queue.specs.Queues.{Stays}
 use Rattle.queue.specs.declared.Queue.{Queue}
-use Rattle.queue.proofs.Drains.{stays_on}
+use Rattle.queue.proofs.Stays.{stays_on}
 use Rattle.dates.specs.Dates.{Earliest, CalendarLaws}
 use Rattle.dates.specs.Agendas.{IsDateIn, IsBefore}
 use Rattle.agenda.specs.Merging.{OneEach, Awaits, Joined, Merged}

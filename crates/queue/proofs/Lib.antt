@@ -1,3 +1,3 @@
-pub mod Drains
 pub mod Holes
 pub mod Sifted
+pub mod Stays

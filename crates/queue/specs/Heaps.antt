@@ -1,5 +1,5 @@
 -- What is said of things that wait; `precedes a b` says whether a comes before b.
-use Rattle.std.specs.Prelude.{◌≡◌, ℕ, ◌+◌, ◌*◌, ◌<◌, ◌≤◌, Bool, false, List, slice_index_or, All, AllPairs}
+use Rattle.std.specs.Prelude.{◌≡◌, ℕ, ◌+◌, ◌*◌, ◌<◌, ◌≤◌, Bool, false, List, slice_index_or, All}
 
 module _ {X : Type 0} (precedes : X → X → Bool) where
   -- of the first n, none precedes its parent: the children of slot p are slots p * 2 + 1 and p * 2 + 2 (d is what a read past the end would give)
@@ -9,12 +9,3 @@ module _ {X : Type 0} (precedes : X → X → Bool) where
   -- none of xs precedes x
   abbrev pub Unpreceded : List X → X → Type 0
   Unpreceded xs x = All (λ y. precedes y x ≡ false) xs
-
-  -- none is preceded by a later one
-  abbrev pub InOrder : List X → Type 0
-  InOrder xs = AllPairs (λ x later. precedes later x ≡ false) xs
-
-  -- out is in order, and nothing that is left precedes any of it
-  pub record Served (out left : List X) : Type 0 where
-    pub sorted : InOrder out
-    pub first : All (Unpreceded left) out

@@ -1,5 +1,5 @@
 -- What the contracts of a queue read of it.
-use Rattle.std.specs.Prelude.{◌≡◌, ℕ, ◌+◌, Bool, List, ◌∷◌, ◌++◌, length, take, drop}
+use Rattle.std.specs.Prelude.{◌≡◌, ℕ, ◌+◌, Bool, List, ◌∷◌, length, take, drop}
 use Rattle.std.specs.List.Sorted.{IsPermutation}
 use Rattle.queue.specs.Heaps.{Heaped}
 use Rattle.queue.specs.declared.Queue.{Queue}
@@ -28,13 +28,6 @@ module _ {X : Type 0} where
   pub record OneMore (x : X) (fewer more : Queue X) : Type 0 where
     pub holds : IsPermutation (x ∷ things_of fewer) (things_of more)
     pub counts : count_of more ≡ count_of fewer + 1
-
-  -- n things went from q, which is r afterwards, to the front of out, which is new afterwards
-  pub record Drained (n : ℕ) (q r : Queue X) (out new : List X) : Type 0 where
-    pub counts : count_of q ≡ n + count_of r
-    pub holds : IsPermutation (things_of q) (take n new ++ things_of r)
-    pub as_long : length new ≡ length out
-    pub rest : drop n new ≡ drop n out
 
   -- from q to r, the loan and the number of slots stay, and so do the slots from n on, and this order, if q stands in it
   pub record Stays (precedes : X → X → Bool) (n : ℕ) (q r : Queue X) : Type 0 where

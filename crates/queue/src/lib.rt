@@ -3,7 +3,6 @@
 
 ghost use Rattle.std.specs.Prelude.{◌≤◌, length, Some, codes};
 
-mod drain;
 mod serve;
 mod sift;
 

@@ -1,5 +1,5 @@
 //! What can be done with a queue.
-ghost use Rattle.std.specs.Prelude.{◌≡◌, ◌<◌, Bool, length, IfNone, IfSome, OnErr, OnOk};
+ghost use Rattle.std.specs.Prelude.{◌≡◌, Bool, length, IfNone, IfSome, OnErr, OnOk};
 ghost use Rattle.queue.specs.Heaps.{Unpreceded};
 ghost use Rattle.queue.specs.Queues.{slots_of, count_of, loan_of, things_of, Ordered, OneMore, Stays};
 
@@ -37,6 +37,7 @@ impl<T: Copy> Queue<'_, T> {
     }
 
     /// Takes out a thing, unless none is held: under one order throughout, one that no other precedes.
+    #[tactic(auto, using(crate::proofs::Holes::took))]
     pub fn take<O: Order<Item = T>>(&mut self, order: &O) -> Option<T>
         ensures takes { IfSome result (λ thing. OneMore thing self.new self.old) }
         ensures empty { IfNone result (count_of self.old ≡ 0) }
@@ -47,22 +48,12 @@ impl<T: Copy> Queue<'_, T> {
         if self.is_empty() {
             return None;
         }
-        Some(self.take_first(order))
-    }
-
-    /// Takes out what stands in the first slot; the thing in the last slot in use sinks from there.
-    #[tactic(auto, using(crate::proofs::Holes::took))]
-    pub(crate) fn take_first<O: Order<Item = T>>(&mut self, order: &O) -> T
-        requires { 0 < count_of self.old }
-        ensures takes { OneMore result self.new self.old }
-        ensures first { Ordered (O.precedes order.now) self.old → Unpreceded (O.precedes order.now) (things_of self.old) result }
-        ensures stays { Stays (O.precedes order.now) (count_of self.new) self.old self.new }
-    {
         let left = self.count - 1;
         let first = self.slots[0];
         let last = self.slots[left];
+        // the thing in the last slot in use sinks from the first slot
         self.sink(order, last, left);
         self.count = left;
-        first
+        Some(first)
     }
 }

@@ -3,7 +3,7 @@ use Rattle.std.proofs.lemmas.List.{length-set, take_more_set, drop-set-lt}
 use Rattle.queue.specs.Queues.{things_of}
 use Rattle.order.specs.Keys.{by_keys}
 use Rattle.kinds.specs.Keys.{keys_by_tick}
-use Rattle.queue.proofs.Drains.{drop_later, stays_on}
+use Rattle.queue.proofs.Stays.{drop_later, stays_on}
 use Rattle.agenda.proofs.Merges.{merged_more, taken_date}
 use Rattle.agenda.proofs.merge.merge.Goals as goal
 

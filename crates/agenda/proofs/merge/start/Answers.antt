@@ -2,7 +2,7 @@ use Rattle.std.proofs.Common.{◌-◌, ◌+◌, ◌≡◌, subst, arith}
 use Rattle.queue.specs.Queues.{things_of}
 use Rattle.order.specs.Keys.{by_keys}
 use Rattle.kinds.specs.Keys.{keys_by_tick}
-use Rattle.queue.proofs.Drains.{stays_on}
+use Rattle.queue.proofs.Stays.{stays_on}
 use Rattle.agenda.proofs.Merges.{stays_itself, Started, started_none, started_more, merged_none}
 use Rattle.agenda.proofs.merge.start.Goals as goal
 
