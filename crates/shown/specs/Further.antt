@@ -1,12 +1,14 @@
 -- Further examples of the plain book.
-use Rattle.std.specs.Prelude.{◌≡◌, ℕ, ◌^◌, ℤ, pos, neg_ℤ, Bool, if◌then◌else◌, List, [], ◌∷◌, ◌++◌, Some, replicate, ◌==◌}
+use Rattle.std.specs.Prelude.{◌≡◌, ℕ, ◌^◌, ℤ, pos, neg_ℤ, Bool, if◌then◌else◌, List, [], ◌∷◌, ◌++◌, Some, map, replicate, ◌==◌}
 use Rattle.std.proofs.Common.{arith}
 use Rattle.refusal.specs.Refusals.{number_of, place_of_lent}
 use Rattle.refusal.specs.declared.Fault.{Fault}
 use Rattle.refusal.specs.declared.Fault.TheVariants as fault
 use Rattle.refusal.specs.declared.Layer.TheVariants.{Opening}
 use Rattle.refusal.specs.declared.Lent.TheVariants as lent
+use Rattle.set.specs.declared.sets.Set.{Set}
 use Rattle.set.specs.Sets.{Made}
+use Rattle.plan.specs.Groups.{group_in}
 use Rattle.plan.specs.declared.plans.Plan.{Plan}
 use Rattle.order.specs.Keys.{by_keys}
 use Rattle.kinds.specs.Keys.{keys_by_model, keys_by_remaining}
@@ -21,7 +23,7 @@ use Rattle.book.specs.Racks.{rack_of}
 use Rattle.book.specs.Sheets.{Sheet, words_of}
 use Rattle.book.specs.Books.{Book, blank}
 use Rattle.book.specs.Calls.{Call, Answer, Advance, Withdraw, AskStanding, Advanced, Withdrew, Stands, Refused, Leads, numbers_of, about_opening, running}
-use Rattle.book.specs.Buffers.{words_after}
+use Rattle.book.specs.Buffers.{words_after, ScratchAfter}
 use Rattle.book.specs.Laws.{Lawful}
 use Rattle.shown.specs.Examples.{Weighing, Gives, GivesThree, every_ten, phases_of_three, advance, first_sheet, second_sheet}
 
@@ -188,5 +190,11 @@ pub record Further : Type 0 where
   pub too_near : GivesThree (λ plan. about_opening (rack_of plan) spacings_near ≡ Some (record { number = number_of fault.Spacing; layer = Opening; place = 2 }))
   -- start, end, first worker and number of words
   pub numbers : (numbers_of first_sheet ≡ (0, 10, 1, 13)) × (numbers_of second_sheet ≡ (10, 20, 1, 13)) × (numbers_of other_sheet ≡ (0, 10, 3, 6))
-  -- of 15 words that held 7 an advance leaves its own 13 and the last two as they were, and a refused one leaves all
-  pub left_behind : (words_after (Advanced first_sheet) (replicate 15 7) ≡ words_of first_sheet ++ 7 ∷ 7 ∷ []) × (words_after (refused fault.Moment 1) (replicate 15 7) ≡ replicate 15 7)
+  -- of 15 words that held 7 an advance leaves its own 13 and the last two as they were; a refused one leaves all of them, and its scratch
+  pub left_behind :
+      (words_after (Advanced first_sheet) (replicate 15 7) ≡ words_of first_sheet ++ 7 ∷ 7 ∷ [])
+      × (words_after (refused fault.Moment 1) (replicate 15 7) ≡ replicate 15 7)
+      × ((old new : List Run) → ScratchAfter (refused fault.Moment 1) old new → new ≡ old)
+  -- three workers stand in groups of two; a heavy model takes the first of them alone
+  pub groups_light : (set : Set) → Weighing 3 2 12 (8 ∷ 8 ∷ []) set → map (group_in set) (1 ∷ 2 ∷ 3 ∷ []) ≡ 1 ∷ 1 ∷ 2 ∷ []
+  pub groups_heavy : (set : Set) → Weighing 3 2 12 (8 ∷ 9 ∷ []) set → map (group_in set) (1 ∷ 2 ∷ 3 ∷ []) ≡ 1 ∷ 2 ∷ 2 ∷ []

@@ -3,6 +3,7 @@ use Rattle.order.proofs.Keyed.{by_keys-OrderLaws}
 use Rattle.kinds.specs.Keys.{keys_by_model, keys_by_remaining}
 use Rattle.book.specs.Calls.{declines, advances, rests, withdraws, stands, ends, about_opening}
 use Rattle.shown.specs.Further.{own_keys, spacings_near}
+use Rattle.shown.proofs.Written.{is_written}
 use Rattle.shown.proofs.Rosters.{also}
 use Rattle.shown.proofs.Three.{gives_three, plays_three, first_next, idle_next}
 use Rattle.shown.proofs.One.{plays_one, short_next, long_next, fewer_next, own_next}
@@ -61,5 +62,7 @@ returns c = record {
   idle_pieces = plays_full (also (advances _ _ _ _ refl pieces_next) (ends _));
   too_near = gives_three _ (λ plan is. ap (λ r. about_opening r spacings_near) is);
   numbers = (refl, refl, refl);
-  left_behind = (refl, refl);
+  left_behind = (refl, refl, λ old new same. same);
+  groups_light = λ set made. rw (is_written set made (refl, refl)) refl;
+  groups_heavy = λ set made. rw (is_written set made (refl, refl)) refl;
 }
