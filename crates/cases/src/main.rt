@@ -1,9 +1,9 @@
 //! Prints many set files: each line of standard input is one, in hexadecimal digits.
 #![tactic(auto)]
 
-use printout::print_to;
+use printout::{TEXT_BYTES, print_file};
 use std::alloc::{AllocError, Global};
-use std::io::{BufRead, BufReader};
+use std::io::{BufRead, BufReader, Write};
 
 /// The value of a hexadecimal digit; any other byte, a capital too, counts as 0.
 /// The library's digits read capitals and refuse rubbish, and this program reads as it did.
@@ -26,9 +26,11 @@ fn decoded(heap: Global, line: &[u8]) -> Result<Vec<u8>, AllocError> {
 }
 
 fn main(rt: HostRuntime) -> anyhow::Result<()> {
+    let mut text = [0; TEXT_BYTES];
     for line in BufReader::new(rt.alloc(), rt.stdin())?.lines(rt.alloc()) {
         let bytes = decoded(rt.alloc(), line?.as_bytes())?;
-        print_to(bytes.as_slice(), &mut rt.stdout())?;
+        let len = print_file(bytes.as_slice(), &mut text)?;
+        rt.stdout().write_all(&text[..len])?;
     }
     Ok(())
 }

@@ -6,3 +6,4 @@ pub mod Counts
 pub mod Tables
 pub mod Sizes
 pub mod Ones
+pub mod Prints

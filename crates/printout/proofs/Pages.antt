@@ -87,13 +87,6 @@ holds_append t s old p q g h =
           ∙ (λ k. (t ++ s) ++ (drop-drop (length s) (length t) old ∙ ap (λ n. drop n old) (sym both)) k);
     }
 
--- a text that the memory has room for, behind what is written, fits the page
-pub holds_fits : (t s old : List ℕ) (p : Page) → Holds t old p → length t + length s ≤ length old → p.len + length s ≤ length (memory p)
-holds_fits t s old p h fits =
-    let first : p.len ≡ length t = h.all in
-    let room = ap length h.front ∙ length-append t (drop (length t) old) in
-    omega (arith, length-drop (length t) old)
-
 -- a loop that appends a text for each element, behind what was written before it
 module _ {X : Type 0} (f : X → List ℕ) (xs : List X) (i : ℕ) (d : X) (p q : Page) (h : i < length xs) (before : Appends p (flat_map f (take i xs)) q) where
   pub each_fits : p.len + length (flat_map f xs) ≤ length (memory p) → q.len + length (f (get_or xs i d)) ≤ length (memory q)

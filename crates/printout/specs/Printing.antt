@@ -1,6 +1,5 @@
 -- What printing a file into lent memory answers.
 use Rattle.std.specs.Prelude.{◌≡◌, ℕ, List, ◌++◌, length, drop, None, Option, Result, nat_le}
-use Rattle.std.specs.Io.KnownBytes.{Appends}
 use Rattle.refusal.specs.declared.Layer.TheVariants.{Running}
 use Rattle.refusal.specs.declared.Lent.TheVariants.{Text}
 use Rattle.refusal.specs.declared.Refusal.{Refusal}
@@ -21,10 +20,3 @@ pub record Printed (bytes before after : List ℕ) (n : ℕ) : Type 0 where
   pub only : (other : Result Plan Refusal) → PlacesFile bytes other → text_of other ≡ text_of placed
   pub size : n ≡ length (text_of placed)
   pub text : after ≡ text_of placed ++ drop n before
-
--- what a writer is known to hold grows by that text
-pub record PrintedTo (bytes : List ℕ) (before after : Option (List ℕ)) : Type 0 where
-  pub placed : Result Plan Refusal
-  pub places : PlacesFile bytes placed
-  pub only : (other : Result Plan Refusal) → PlacesFile bytes other → text_of other ≡ text_of placed
-  pub grows : Appends before after (text_of placed)
