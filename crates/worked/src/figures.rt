@@ -38,11 +38,3 @@ fn weights_and_runs(rt: HostRuntime) -> Result<(), Fail> {
     assert_eq!(rt; set.run_parts(3), None);
     Ok(())
 }
-
-#[test]
-fn a_refusal_as_text(rt: HostRuntime) -> Result<(), Fail> {
-    let refusal = Fault::Full.at(Layer::Placement, 3);
-    let text = format!(in rt.alloc(); "{refusal}")?;
-    assert_eq!(rt; text.as_str(), "refused 7 placement 3");
-    Ok(())
-}

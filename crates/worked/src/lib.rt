@@ -15,3 +15,5 @@ mod piles;
 mod plans;
 #[cfg(test)]
 mod queues;
+#[cfg(test)]
+mod texts;
