@@ -2,7 +2,9 @@
 #![tactic(auto)]
 
 ghost use Rattle.std.specs.Prelude.{◌≡◌, Some};
-ghost use Rattle.refusal.specs.Refusals.{number_of, word_of, place_of_lent, refusal_words};
+ghost use Rattle.refusal.specs.Refusals.{number_of, word_of, refusal_words};
+
+mod places;
 
 use std::error::Error;
 use std::fmt;
@@ -110,15 +112,6 @@ pub enum Lent {
     Scratch = 2,
     /// for a text
     Text = 3,
-}
-
-impl Lent {
-    /// The place of a refusal of this memory.
-    pub fn place(self) -> u64
-        ensures { result ≡ place_of_lent self }
-    {
-        self as u64
-    }
 }
 
 /// A fault, the layer that found it, and a place: a number that says where, or how many there were.
