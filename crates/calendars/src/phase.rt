@@ -19,7 +19,7 @@ impl PhaseCalendar {
     fn phase(&self, model: u32) -> Phase
         ensures { result ≡ phase_at self.now.phases model }
     {
-        at_model(&self.phases, model, Phase::NONE)
+        at_model(&self.phases, model, Phase::none())
     }
 }
 

@@ -16,7 +16,7 @@ fn set_at<T: Copy>(table: &mut [T], model: u32, value: T) -> Result<()> {
 
 /// The phases of the models that are named.
 pub(crate) fn phases_of(words: SplitAsciiWhitespace<'_>) -> Result<[Phase; MODELS]> {
-    let mut phases = [Phase::NONE; MODELS];
+    let mut phases = [Phase::none(); MODELS];
     for word in words {
         let (model, rest) = word.split_once(':').context("no phase")?;
         let (first, period) = pair_of(rest, ',')?;

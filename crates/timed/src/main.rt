@@ -25,7 +25,7 @@ fn answer_line<W: Write>(heap: Global, line: &str, out: &mut W) -> Result<()> {
     let mut words = line.split_ascii_whitespace();
     let end = words.next().context("no tick")?.parse()?;
     let length = words.next().context("no length")?.parse()?;
-    let mut phases = [Phase::NONE; MODELS];
+    let mut phases = [Phase::none(); MODELS];
     for (slot, word) in words.enumerate() {
         let (first, period) = word.split_once(',').context("no phase")?;
         *phases.get_mut(slot).context("too many models")? = Phase {

@@ -11,7 +11,7 @@ use refusal::{Fault, Layer};
 
 /// Models 1, 2 and 64 have these phases, and the others none.
 pub(crate) fn phases(one: (u32, u32), two: (u32, u32), last: (u32, u32)) -> PhaseCalendar {
-    let mut phases = [Phase::NONE; 64];
+    let mut phases = [Phase::none(); 64];
     for (slot, (first, period)) in [(0, one), (1, two), (63, last)] {
         phases[slot] = Phase { first, period };
     }

@@ -1,17 +1,21 @@
 //! What a phase can be asked.
 ghost use Rattle.std.specs.Prelude.{◌≡◌, IfNone, IfSome};
 ghost use Rattle.dates.specs.Dates.{Earliest, NoneFrom};
-ghost use Rattle.dates.specs.Phases.{is_beat, pace};
+ghost use Rattle.dates.specs.Phases.{is_beat, no_phase, pace};
 
 use super::Phase;
 use crate::END;
 
 impl Phase {
     /// No dates.
-    pub const NONE: Phase = Phase {
-        first: 0,
-        period: 0,
-    };
+    pub fn none() -> Phase
+        ensures { result ≡ no_phase }
+    {
+        Phase {
+            first: 0,
+            period: 0,
+        }
+    }
 
     /// The earliest date at or after a tick, if there is one.
     #[tactic(auto, using(crate::proofs::Phases::beat_is_earliest))]
