@@ -10,6 +10,8 @@ mod figures;
 #[cfg(test)]
 mod files;
 #[cfg(test)]
+mod lists;
+#[cfg(test)]
 mod piles;
 #[cfg(test)]
 mod plans;
