@@ -3,7 +3,7 @@ use Rattle.std.specs.Prelude.{ℕ, ◌^◌, Bool, ◌&&◌, List, ◌++◌, leng
 use Rattle.refusal.specs.Refusals.{Complaint, number_of, place_of_lent, check, or_else}
 use Rattle.refusal.specs.declared.Fault.TheVariants.{Memory, Span, Crowded}
 use Rattle.refusal.specs.declared.Layer.TheVariants.{Agenda}
-use Rattle.refusal.specs.declared.Lent.TheVariants.{Scratch}
+use Rattle.refusal.specs.declared.memory.Lent.TheVariants.{Scratch}
 use Rattle.kinds.specs.declared.entries.Entry.{Entry}
 use Rattle.dates.specs.Agendas.{agenda_of}
 

@@ -15,5 +15,5 @@ ScratchAfter _ old new = new ≡ old
 
 -- a call that is answered so leaves these words for those, and this scratch for that
 pub record Leaves {X : Type 0} (answer : Answer) (words words' : List ℕ) (scratch scratch' : List X) : Type 0 where
-  pub sheet : words' ≡ words_after answer words
-  pub free : ScratchAfter answer scratch scratch'
+  pub in_words : words' ≡ words_after answer words
+  pub in_scratch : ScratchAfter answer scratch scratch'

@@ -4,7 +4,7 @@ use Rattle.refusal.specs.Refusals.{Complaint, number_of, place_of_lent, check, f
 use Rattle.refusal.specs.declared.Fault.{Fault}
 use Rattle.refusal.specs.declared.Fault.TheVariants.{Spacing, Group, Memory, Model, Moment, Withdrawn}
 use Rattle.refusal.specs.declared.Layer.TheVariants.{Opening, Running}
-use Rattle.refusal.specs.declared.Lent.TheVariants.{Sheet as SheetMemory, Scratch}
+use Rattle.refusal.specs.declared.memory.Lent.TheVariants.{Sheet as SheetMemory, Scratch}
 use Rattle.set.specs.Limits.{within}
 use Rattle.kinds.specs.declared.runs.Run.{Run}
 use Rattle.standing.specs.declared.Phase.{Phase}

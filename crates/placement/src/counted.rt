@@ -4,27 +4,27 @@ ghost use Rattle.set.specs.Sets.{HasModel, Weighs};
 ghost use Rattle.set.specs.Heavy.{heavy_count_of};
 ghost use Rattle.placement.specs.Rules.{room_for_light, too_heavy};
 
+use plan::groups::Grouping;
 use refusal::{Fault, Layer, Refusal};
 use set::sets::Set;
 
-/// A set whose heavy models are counted, and leave workers enough. Workers 1 to `alone` are groups of one, each for a heavy model.
+/// A set whose heavy models are counted, by how its workers stand in groups, and leave workers enough.
 #[derive(Clone, Copy)]
 pub(crate) struct Counted<'a> {
-    pub(crate) set: &'a Set,
-    pub(crate) alone: u32,
-    ghost heavy: { alone ≡ heavy_count_of set.now },
-    ghost roomy: { room_for_light set.now ≡ true },
+    pub(crate) grouping: Grouping<'a>,
+    ghost roomy: { room_for_light grouping.set.now ≡ true },
 }
 
 impl<'a> Counted<'a> {
     /// Counts, and refuses heavy models that are more than the workers, or that leave no worker for a light one.
     pub(crate) fn new(set: &'a Set) -> Result<Counted<'a>, Refusal>
-        ensures { Answers (check (room_for_light set.now) (too_heavy (heavy_count_of set.now)) None) result (λ counted. counted.set.now ≡ set.now) }
+        ensures { Answers (check (room_for_light set.now) (too_heavy (heavy_count_of set.now)) None) result (λ counted. counted.grouping.set.now ≡ set.now) }
     {
-        let alone = set.heavy_count();
+        let grouping = Grouping::new(set);
+        let alone = grouping.alone;
         let workers = set.sizes.workers;
         if alone < workers || (alone == workers && alone == set.sizes.models) {
-            return Ok(Counted { set, alone });
+            return Ok(Counted { grouping });
         }
         Err(Fault::Heavy.at(Layer::Placement, alone as u64))
     }

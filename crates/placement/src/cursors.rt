@@ -21,13 +21,13 @@ impl Cursor {
         model: u64,
         weight: u32,
     ) -> Result<Pieces, Refusal>
-        requires floor { counted.now.alone < self.worker }
-        requires last { self.worker ≤ counted.now.set.now.sizes.workers }
-        requires room { self.load ≤ counted.now.set.now.sizes.grain }
-        requires light { weight ≤ counted.now.set.now.sizes.grain }
-        ensures { let sizes = counted.now.set.now.sizes in Answers (check (fits sizes.grain self weight || not (self.worker == sizes.workers)) (no_room model) None) result (λ x. x ≡ seated counted.now.alone sizes.group_size sizes.grain self weight) }
+        requires floor { counted.now.grouping.alone < self.worker }
+        requires last { self.worker ≤ counted.now.grouping.set.now.sizes.workers }
+        requires room { self.load ≤ counted.now.grouping.set.now.sizes.grain }
+        requires light { weight ≤ counted.now.grouping.set.now.sizes.grain }
+        ensures { let sizes = counted.now.grouping.set.now.sizes in Answers (check (fits sizes.grain self weight || not (self.worker == sizes.workers)) (no_room model) None) result (λ x. x ≡ seated counted.now.grouping.alone sizes.group_size sizes.grain self weight) }
     {
-        let sizes = counted.set.sizes;
+        let sizes = counted.grouping.set.sizes;
         let worker = self.worker;
         let wanted = self.load + weight;
         if wanted <= sizes.grain {
@@ -39,7 +39,7 @@ impl Cursor {
         if worker == sizes.workers {
             return Err(Fault::Full.at(Layer::Placement, model));
         }
-        if (worker - counted.alone) % sizes.group_size == 0 || self.load == sizes.grain {
+        if (worker - counted.grouping.alone) % sizes.group_size == 0 || self.load == sizes.grain {
             return Ok(Pieces::Whole {
                 worker: worker + 1,
                 size: weight,

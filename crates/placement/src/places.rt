@@ -27,13 +27,13 @@ pub fn place(set: &Set) -> Result<Plan, Refusal>
 
 /// The plan of a set whose models are in these places, with these loads.
 fn plan_of(counted: &Counted<'_>, pieces: [Pieces; MODELS], loads: [u32; WORKERS]) -> Plan
-    requires fine { first_below (about_light counted.now.set.now) (models_of counted.now.set.now) ≡ None }
-    requires seated { Seated counted.now.set.now (models_of counted.now.set.now) pieces }
-    requires loads { (p : ℕ) → p < 32 → slice_index loads p ≡ carried (pieces_at pieces) (p + 1) (models_of counted.now.set.now) }
-    ensures { Follows counted.now.set.now result }
+    requires fine { first_below (about_light counted.now.grouping.set.now) (models_of counted.now.grouping.set.now) ≡ None }
+    requires seated { Seated counted.now.grouping.set.now (models_of counted.now.grouping.set.now) pieces }
+    requires loads { (p : ℕ) → p < 32 → slice_index loads p ≡ carried (pieces_at pieces) (p + 1) (models_of counted.now.grouping.set.now) }
+    ensures { Follows counted.now.grouping.set.now result }
 {
     Plan {
-        set: *counted.set,
+        set: *counted.grouping.set,
         pieces,
         loads,
     }
@@ -41,18 +41,21 @@ fn plan_of(counted: &Counted<'_>, pieces: [Pieces; MODELS], loads: [u32; WORKERS
 
 /// Where each model goes, or a refusal for the first light one that finds no room.
 fn seat_all(counted: &Counted<'_>) -> Result<[Pieces; MODELS], Refusal>
-    ensures { Answers (first_below (about_light counted.now.set.now) (models_of counted.now.set.now)) result (Seated counted.now.set.now (models_of counted.now.set.now)) }
+    ensures { Answers (first_below (about_light counted.now.grouping.set.now) (models_of counted.now.grouping.set.now)) result (Seated counted.now.grouping.set.now (models_of counted.now.grouping.set.now)) }
 {
     // a slot without a model: no call answers one, so an `Option` would be unwrapped wherever a slot is read
     let mut pieces = [Pieces::Whole { worker: 0, size: 0 }; MODELS];
-    fill_seats(counted, &mut pieces[..counted.set.sizes.models as usize])?;
+    fill_seats(
+        counted,
+        &mut pieces[..counted.grouping.set.sizes.models as usize],
+    )?;
     Ok(pieces)
 }
 
 /// Writes where each model goes, until the first one that finds no room.
 fn fill_seats(counted: &Counted<'_>, seats: &mut [Pieces]) -> Result<(), Refusal>
-    requires { length seats.old ≡ models_of counted.now.set.now }
-    ensures { Answers (first_below (about_light counted.now.set.now) (models_of counted.now.set.now)) result (λ _. (i : ℕ) → i < models_of counted.now.set.now → pieces_at seats.new i ≡ placed counted.now.set.now i) }
+    requires { length seats.old ≡ models_of counted.now.grouping.set.now }
+    ensures { Answers (first_below (about_light counted.now.grouping.set.now) (models_of counted.now.grouping.set.now)) result (λ _. (i : ℕ) → i < models_of counted.now.grouping.set.now → pieces_at seats.new i ≡ placed counted.now.grouping.set.now i) }
 {
     let mut walk = Walk::new(counted);
     for (i, seat) in seats.iter_mut().enumerate() {

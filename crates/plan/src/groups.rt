@@ -1,7 +1,6 @@
 ghost use Rattle.std.specs.Prelude.{◌≡◌, MatchOption};
 ghost use Rattle.set.specs.Heavy.{heavy_count_of};
-ghost use Rattle.set.specs.Sets.{worker_count_of};
-ghost use Rattle.plan.specs.Groups.{group_in, Group, NoGroup, Counts};
+ghost use Rattle.plan.specs.Groups.{group_in, GroupIn, NoGroupIn, CountsIn};
 
 use set::sets::Set;
 
@@ -45,14 +44,14 @@ impl<'a> Grouping<'a> {
 
     /// How many groups there are: the last worker's group says.
     pub fn count(&self) -> u32
-        ensures { Counts (group_in self.now.set.now) (worker_count_of self.now.set.now) result }
+        ensures { CountsIn self.now.set.now result }
     {
         self.group_of(self.set.sizes.workers)
     }
 
     /// The workers of a group, if there is such a group.
     pub fn workers_in(&self, group: u32) -> Option<Workers>
-        ensures { MatchOption result (NoGroup (group_in self.now.set.now) (worker_count_of self.now.set.now) group) (λ w. Group (group_in self.now.set.now) (worker_count_of self.now.set.now) group w.first w.last) }
+        ensures { MatchOption result (NoGroupIn self.now.set.now group) (λ w. GroupIn self.now.set.now group w.first w.last) }
     {
         let sizes = self.set.sizes;
         if !(1..=self.group_of(sizes.workers)).contains(&group) {

@@ -1,7 +1,7 @@
 -- What printing a file into lent memory answers.
 use Rattle.std.specs.Prelude.{◌≡◌, ℕ, List, ◌++◌, length, drop, None, Option, Result, nat_le}
 use Rattle.refusal.specs.declared.Layer.TheVariants.{Running}
-use Rattle.refusal.specs.declared.Lent.TheVariants.{Text}
+use Rattle.refusal.specs.declared.memory.Lent.TheVariants.{Text}
 use Rattle.refusal.specs.declared.Refusal.{Refusal}
 use Rattle.refusal.specs.Refusals.{Complaint, number_of, place_of_lent, check}
 use Rattle.refusal.specs.declared.Fault.TheVariants.{Memory}

@@ -4,8 +4,8 @@ use Rattle.refusal.specs.declared.Fault.{Fault}
 use Rattle.refusal.specs.declared.Fault.TheVariants.{Short, Long, Size, Period, Cost, Heavy, Full, Spacing, Group, Memory, Model, Moment, Withdrawn, Misfit, Span, Crowded}
 use Rattle.refusal.specs.declared.Layer.{Layer}
 use Rattle.refusal.specs.declared.Layer.TheVariants.{File, Set, Placement, Opening, Running, Calendar, Agenda}
-use Rattle.refusal.specs.declared.Lent.{Lent}
-use Rattle.refusal.specs.declared.Lent.TheVariants.{Sheet, Scratch, Text}
+use Rattle.refusal.specs.declared.memory.Lent.{Lent}
+use Rattle.refusal.specs.declared.memory.Lent.TheVariants.{Sheet, Scratch, Text}
 use Rattle.refusal.specs.declared.Refusal.{Refusal}
 
 abbrev pub number_of : Fault → ℕ

@@ -4,8 +4,9 @@
 ghost use Rattle.std.specs.Prelude.{◌≡◌, Some};
 ghost use Rattle.refusal.specs.Refusals.{number_of, word_of, refusal_words};
 
-mod places;
+mod memory;
 
+pub use memory::Lent;
 use std::error::Error;
 use std::fmt;
 
@@ -101,17 +102,6 @@ impl fmt::Display for Layer {
     fn fmt<W: fmt::Write>(&self, f: &mut fmt::Formatter<W>) -> fmt::Result {
         f.write_str(self.word())
     }
-}
-
-/// Memory that a caller lends, with the place that stands for it where it is too small.
-#[derive(Clone, Copy, Debug, PartialEq, Eq, Hash)]
-pub enum Lent {
-    /// for the words of a sheet
-    Sheet = 1,
-    /// for a queue
-    Scratch = 2,
-    /// for a text
-    Text = 3,
 }
 
 /// A fault, the layer that found it, and a place: a number that says where, or how many there were.

@@ -5,7 +5,7 @@ use Rattle.refusal.specs.Refusals.{number_of, place_of_lent}
 use Rattle.refusal.specs.declared.Fault.{Fault}
 use Rattle.refusal.specs.declared.Fault.TheVariants as fault
 use Rattle.refusal.specs.declared.Layer.TheVariants.{Opening}
-use Rattle.refusal.specs.declared.Lent.TheVariants as lent
+use Rattle.refusal.specs.declared.memory.Lent.TheVariants as lent
 use Rattle.set.specs.declared.sets.Set.{Set}
 use Rattle.set.specs.Sets.{Made}
 use Rattle.plan.specs.Groups.{group_in}

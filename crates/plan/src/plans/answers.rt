@@ -1,7 +1,7 @@
 ghost use Rattle.std.specs.Prelude.{◌≡◌, ◌-◌, ◌<◌, MatchOption, slice_index};
-ghost use Rattle.set.specs.Sets.{OfModel, worker_count_of};
+ghost use Rattle.set.specs.Sets.{OfModel};
 ghost use Rattle.plan.specs.Shares.{pieces_at, worker_of};
-ghost use Rattle.plan.specs.Groups.{group_in, Group, NoGroup, Counts};
+ghost use Rattle.plan.specs.Groups.{group_in, GroupIn, NoGroupIn, CountsIn};
 ghost use Rattle.plan.specs.Answers.{Worker};
 
 use super::Plan;
@@ -44,14 +44,14 @@ impl Plan {
 
     /// How many groups there are.
     pub fn group_count(&self) -> u32
-        ensures { Counts (group_in self.now.set) (worker_count_of self.now.set) result }
+        ensures { CountsIn self.now.set result }
     {
         self.grouping().count()
     }
 
     /// The first and the last worker of a group.
     pub fn workers_in(&self, group: u32) -> Option<Workers>
-        ensures { MatchOption result (NoGroup (group_in self.now.set) (worker_count_of self.now.set) group) (λ w. Group (group_in self.now.set) (worker_count_of self.now.set) group w.first w.last) }
+        ensures { MatchOption result (NoGroupIn self.now.set group) (λ w. GroupIn self.now.set group w.first w.last) }
     {
         self.grouping().workers_in(group)
     }

@@ -9,12 +9,12 @@ use Rattle.placement.proofs.places.fill_seats.Goals as goal
 pub returns-in_err-seat : goal.returns-in_err-seat
 returns-in_err-seat c =
     let p = err_from_is_err_and c.from_residual.result c.from_residual.ensures.1 in
-    let set = c.args.counted.now.set.now in
+    let set = c.args.counted.now.grouping.set.now in
     rw (p.1, p.2) (first_stays (about_light set) (models_of set) c.loop-i.i _ (omega arith) c.loop-i.invariant.2 c.in_err-seat.ensures.answers)
 
 pub loop-i-preserved : goal.loop-i-preserved
 loop-i-preserved c =
-    let set = c.args.counted.now.set.now in
+    let set = c.args.counted.now.grouping.set.now in
     let i = c.loop-i.i in (
       c.in_ok-seat.ensures.heavies,
       c.in_ok-seat.ensures.cursor,

@@ -8,5 +8,5 @@ use Rattle.placement.proofs.places.fill_seats.Given as goal
 -- the models so far are placed, and none of them was refused
 abbrev pub invariant-loop-i : goal.invariant-loop-i
 invariant-loop-i l =
-    let set = l.counted.set.now in
+    let set = l.counted.grouping.set.now in
     (l.walk.heavies ≡ heavies set l.i) × (l.walk.cursor ≡ cursor set l.i) × (first_below (about_light set) l.i ≡ None) × ((k : ℕ) → k < l.i → pieces_at l.seats k ≡ placed set k)

@@ -4,7 +4,7 @@ use Rattle.placement.proofs.places.plan_of.Goals as goal
 pub invariant_of-result : goal.invariant_of-result
 invariant_of-result c =
     let counted = c.args.counted.now in
-    let set = counted.set.now in
+    let set = counted.grouping.set.now in
     let pieces = c.args.pieces in
     let seated = c.requires.seated in
     let ok = counted.roomy in

@@ -6,7 +6,7 @@ use Rattle.placement.proofs.places.seat_all.Goals as goal
 
 pub returns : goal.returns
 returns c =
-    let set = c.args.counted.now.set.now in
+    let set = c.args.counted.now.grouping.set.now in
     let n = set.sizes.models in
     let level : length c.fill_seats.new.seats ≡ n =
     c.fill_seats.auto.seats ∙ length-take-le n (replicate 64 nowhere) (omega (arith, set.sizes.few_models, length-replicate 64 nowhere)) in

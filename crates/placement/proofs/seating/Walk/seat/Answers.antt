@@ -5,15 +5,15 @@ use Rattle.placement.proofs.seating.Walk.seat.Goals as goal
 
 pub overflow_add-self : goal.overflow_add-self
 overflow_add-self c =
-    let set = c.args.counted.now.set.now in
+    let set = c.args.counted.now.grouping.set.now in
     omega (arith, c.requires.heavies, heavies_le set c.args.i, c.requires.model, set.sizes.few_models)
 
 pub seat-requires : goal.seat-requires
 seat-requires c =
     let counted = c.args.counted.now in
-    let set = counted.set.now in
+    let set = counted.grouping.set.now in
     let weighs = slot_weight set c.args.i _ c.known_weight-weight.ensures.is in
-    let ready = cursor_ready set c.args.i _ _ weighs c.is_heavy.ensures c.if-is_heavy.false c.args.self.now.cursor c.requires.cursor counted.alone counted.heavy c.requires.model counted.roomy c.requires.before in
+    let ready = cursor_ready set c.args.i _ _ weighs c.is_heavy.ensures c.if-is_heavy.false c.args.self.now.cursor c.requires.cursor counted.grouping.alone counted.grouping.counted c.requires.model counted.roomy c.requires.before in
     record {
       floor = ready.0;
       last = ready.1;
@@ -24,21 +24,21 @@ seat-requires c =
 pub moved-self-requires : goal.moved-self-requires
 moved-self-requires c =
     let counted = c.args.counted.now in
-    let set = counted.set.now in
+    let set = counted.grouping.set.now in
     let weighs = slot_weight set c.args.i _ c.known_weight-weight.ensures.is in
-    let same = light_told set c.args.i _ _ weighs c.is_heavy.ensures c.if-is_heavy.false c.args.self.now.cursor c.requires.cursor counted.alone counted.heavy in
-    let ready = moved_ready set c.args.i _ _ weighs c.is_heavy.ensures c.if-is_heavy.false c.args.self.now.cursor c.requires.cursor counted.alone counted.heavy c.requires.model counted.roomy c.requires.before c.in_ok-seated.seated c.in_ok-seated.ensures.1 (sym same ∙ c.in_ok-seated.ensures.0) in
+    let same = light_told set c.args.i _ _ weighs c.is_heavy.ensures c.if-is_heavy.false c.args.self.now.cursor c.requires.cursor counted.grouping.alone counted.grouping.counted in
+    let ready = moved_ready set c.args.i _ _ weighs c.is_heavy.ensures c.if-is_heavy.false c.args.self.now.cursor c.requires.cursor counted.grouping.alone counted.grouping.counted c.requires.model counted.roomy c.requires.before c.in_ok-seated.seated c.in_ok-seated.ensures.1 (sym same ∙ c.in_ok-seated.ensures.0) in
     record { worker = omega (arith, ready.0, set.sizes.few_workers); load = omega (arith, ready.1, set.sizes.small_grain) }
 
 pub returns-clause-heavies : goal.returns-clause-heavies
 returns-clause-heavies c =
-    let set = c.args.counted.now.set.now in
+    let set = c.args.counted.now.grouping.set.now in
     let weighs = slot_weight set c.args.i _ c.known_weight-weight.ensures.is in
     c.requires.heavies ∙ sym (heavies_same set c.args.i _ _ weighs c.is_heavy.ensures c.if-is_heavy.false)
 
 pub returns-clause-cursor : goal.returns-clause-cursor
 returns-clause-cursor c =
     let counted = c.args.counted.now in
-    let set = counted.set.now in
+    let set = counted.grouping.set.now in
     let weighs = slot_weight set c.args.i _ c.known_weight-weight.ensures.is in
-    c.moved-self.ensures ∙ cursor_moves set c.args.i _ _ weighs c.is_heavy.ensures c.if-is_heavy.false c.args.self.now.cursor c.requires.cursor counted.alone counted.heavy c.in_ok-seated.seated c.in_ok-seated.ensures.1
+    c.moved-self.ensures ∙ cursor_moves set c.args.i _ _ weighs c.is_heavy.ensures c.if-is_heavy.false c.args.self.now.cursor c.requires.cursor counted.grouping.alone counted.grouping.counted c.in_ok-seated.seated c.in_ok-seated.ensures.1
