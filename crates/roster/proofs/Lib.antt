@@ -1,0 +1,15 @@
+pub mod Advancing
+pub mod Asking
+pub mod Checking
+pub mod Due
+pub mod Filling
+pub mod Opening
+pub mod Parts
+pub mod Reports
+pub mod RowsTold
+pub mod Seats
+pub mod Serving
+pub mod Settling
+pub mod Soonest
+pub mod Turning
+pub mod Withdrawing

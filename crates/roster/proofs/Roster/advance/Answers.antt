@@ -1,0 +1,93 @@
+use Rattle.std.proofs.Common.{◌≡◌, ◌-◌, ◌+◌, ◌*◌, ◌^◌, ◌≤◌, ap, ◌∙◌, refl, subst, length, arith}
+use mathlib.Core.Logic.{∥∥₁_elim, ∥∥₁_map}
+use Rattle.std.proofs.Props.{props}
+use Rattle.std.proofs.lemmas.Result.{err_from_is_err_and}
+use Rattle.std.proofs.lemmas.Nat.{mul-le}
+use Rattle.std.specs.Prelude.{slice_index}
+use Rattle.roster.specs.Records.{phase_at, served_in}
+use Rattle.refusal.specs.Refusals.{told}
+use Rattle.refusal.proofs.Firsts.{passed}
+use Rattle.book.specs.Racks.{rack_of}
+use Rattle.book.specs.Books.{entered}
+use Rattle.book.specs.Calls.{Advanced, is_group}
+use Rattle.sheet.specs.Tables.{rows_of}
+use Rattle.std.proofs.lemmas.List.{length-set}
+use Rattle.roster.proofs.Reports.{lawful_over, small}
+use Rattle.book.proofs.Racks.{rack_of-IsRack}
+use Rattle.roster.proofs.Parts.{rows_rise, all_rise-prop, gets_few, gets_model}
+use Rattle.roster.proofs.Advancing.{advance_declines, advance_rests, sheet_of, advanced}
+use Rattle.roster.proofs.Roster.advance.Goals as goal
+
+pub returns-in_err-workers-clause-keeps : goal.returns-in_err-workers-clause-keeps
+returns-in_err-workers-clause-keeps g c =
+    let x = c.args.self.now in
+    let p = err_from_is_err_and c.from_residual.result c.from_residual.ensures.1 in
+    rw (p.1, p.2) (advance_declines x c.args.group c.args.sheet.now c.args.scratch.now c.in_err-workers.field-0.0 c.in_err-workers.ensures.answers)
+
+pub returns-in_default-clause-keeps : goal.returns-in_default-clause-keeps
+returns-in_default-clause-keeps g c =
+    advance_rests c.args.self.now c.args.group c.args.sheet.now c.args.scratch.now c.at.result c.in_ok-workers.ensures.answers.0 (ap told c.at.ensures) c.in_default.ensures.next
+
+pub next-requires-clause-group : goal.next-requires-clause-group
+next-requires-clause-group g c = (passed (is_group (rack_of c.args.self.now.plan.now) c.args.group) _ _ c.in_ok-workers.ensures.answers.0).0
+
+pub serve-requires : goal.serve-requires
+serve-requires g c =
+    let x = c.args.self.now in
+    let sizes = x.plan.now.set.sizes in
+    let ok = rack_of-IsRack x.plan.now in
+    let dates = g.C.Calendar.dates x.calendar.now in
+    let precedes = g.O.Order.precedes x.order.now in
+    let lawful = lawful_over (g.met.C.Calendar.laws x.calendar.now) (g.met.O.Order.laws x.order.now) x.spaced in
+    let ticks = c.in-Some.end - slice_index x.presents (c.args.group - 1) in
+    let first = c.in_ok-workers.workers.first in
+    let rows = rows_of c.rows-rows.result in
+    record {
+      rises = ∥∥₁_elim x.told (all_rise-prop rows) (λ t. rows_rise ok dates precedes t.0 ticks first rows (c.rows-rows.ensures.rows t.0 t.1));
+      room = λ k l some. ∥∥₁_elim x.told (hlevel props) (λ t.
+          let are = c.rows-rows.ensures.rows t.0 t.1 in
+          let e : k + 1 - 1 ≡ k = omega arith in
+          let model = gets_model ok dates precedes t.0 ticks first rows are (k + 1) (omega arith) some in
+          let few = subst (λ j. served_in (phase_at x.models.records j) ≤ 100800 * 100800) e (small t.0 t.1 (k + 1) model (g.C.Calendar.spacings x.calendar.now) lawful) in
+          omega (arith, few, gets_few ok dates precedes t.0 ticks first rows are (k + 1) (omega arith), mul-le sizes.grain ticks 100800 (2 ^ 32) sizes.small_grain (omega arith)));
+    }
+
+pub invariant_of-self : goal.invariant_of-self
+invariant_of-self g c =
+    let x = c.args.self.now in
+    let lawful = lawful_over (g.met.C.Calendar.laws x.calendar.now) (g.met.O.Order.laws x.order.now) x.spaced in
+    let w = c.in_ok-workers in
+    let rows = rows_of c.rows-rows.result in
+    record {
+      groups = length-set x.presents (c.args.group - 1) c.in-Some.end ∙ x.groups;
+      flags = length-set x.mirrored (c.args.group - 1) _ ∙ x.flags;
+      chained = x.chained;
+      grouped = x.grouped;
+      spaced = x.spaced;
+      told = ∥∥₁_map x.told (λ t. (
+        entered t.0 (sheet_of c.args.group (slice_index x.presents (c.args.group - 1)) c.in-Some.end w.workers.first rows),
+        (advanced x (g.C.Calendar.spacings x.calendar.now) lawful c.args.group c.in-Some.end w.workers.first w.workers.last (length c.args.sheet.now) (length c.args.scratch.now) rows c.serve.new.self.records c.settle.new.models.records
+            w.ensures.slot.0 w.ensures.slot.1 x.groups x.flags w.ensures.answers.0 w.ensures.answers.1 c.rows-rows.ensures.all c.serve.ensures c.coming-coming.result.dates c.coming-coming.ensures c.settle.ensures t.0 t.1 (c.in-Some.ensures.next t.0 t.1) (c.rows-rows.ensures.rows t.0 t.1)).1,
+      ));
+    }
+
+pub returns-clause-keeps : goal.returns-clause-keeps
+returns-clause-keeps g c =
+    let x = c.args.self.now in
+    let lawful = lawful_over (g.met.C.Calendar.laws x.calendar.now) (g.met.O.Order.laws x.order.now) x.spaced in
+    let w = c.in_ok-workers in
+    let rows = rows_of c.rows-rows.result in
+    record {
+      over = record { plan' = refl; calendar' = refl; order' = refl };
+      goes = λ b tells.
+          let s = sheet_of c.args.group (slice_index x.presents (c.args.group - 1)) c.in-Some.end w.workers.first rows in
+          let done = advanced x (g.C.Calendar.spacings x.calendar.now) lawful c.args.group c.in-Some.end w.workers.first w.workers.last (length c.args.sheet.now) (length c.args.scratch.now) rows c.serve.new.self.records c.settle.new.models.records
+          w.ensures.slot.0 w.ensures.slot.1 x.groups x.flags w.ensures.answers.0 w.ensures.answers.1 c.rows-rows.ensures.all c.serve.ensures c.coming-coming.result.dates c.coming-coming.ensures c.settle.ensures b tells (c.in-Some.ensures.next b tells) (c.rows-rows.ensures.rows b tells) in
+          record {
+            answer = Advanced s;
+            after = entered b s;
+            step = done.0;
+            gives' = record { agrees = ap (λ n. (s.start, s.end, s.first, n)) c.write-written.ensures.counts; leaves = record { in_words = c.write-written.ensures.writes; in_scratch = c.rows-rows.ensures.scratch } };
+            tells = done.1;
+          };
+    }

@@ -1,0 +1,43 @@
+-- What the records say of the runs of a worker.
+use Rattle.std.specs.Prelude.{ℕ, ◌+◌, ◌-◌, ◌<◌, ◌^◌, Bool, true, false, ◌&&◌, List, IsTrue}
+use Rattle.kinds.specs.declared.runs.Run.{Run}
+use Rattle.plan.specs.declared.plans.Plan.{Plan}
+use Rattle.sheet.specs.declared.ends.Ends.{Ends}
+use Rattle.sheet.specs.Dividing.{AreEnds}
+use Rattle.book.specs.Racks.{rack_of, whole_on}
+use Rattle.book.specs.Books.{is_model_of}
+use Rattle.book.specs.Turns.{head_of, tail_of}
+use Rattle.roster.specs.declared.phase.Phase.{Phase}
+use Rattle.roster.specs.declared.phase.Phase.TheVariants.{Waiting, Live, Withdrawn}
+use Rattle.roster.specs.declared.record.Record.{Record}
+use Rattle.roster.specs.Records.{phase_at, date_in, served_in}
+
+abbrev pub is_live_in : Phase → Bool
+is_live_in Waiting = false
+is_live_in (Live date served) = true
+is_live_in Withdrawn = false
+
+module _ (plan : Plan) (records : List Record) where
+  -- model i has a run
+  abbrev pub has_run : ℕ → Bool
+  has_run i = is_model_of (rack_of plan) i && is_live_in (phase_at records (i - 1))
+
+  -- and is whole on worker p
+  abbrev pub waits_on : ℕ → ℕ → Bool
+  waits_on p i = has_run i && whole_on p ((rack_of plan).pieces i)
+
+  -- its run, as the order sees it
+  abbrev pub run_in : ℕ → Run
+  run_in i = record {
+    model = i;
+    deadline = date_in (phase_at records (i - 1)) + (rack_of plan).period i;
+    remaining = (rack_of plan).parts i - served_in (phase_at records (i - 1));
+  }
+
+  -- no date is so late that a deadline would not fit its field
+  abbrev pub Early : Type 0
+  Early = (i : ℕ) → IsTrue (is_model_of (rack_of plan) i) → date_in (phase_at records (i - 1)) < 2 ^ 30
+
+  -- the ends of worker p in an interval of D ticks
+  abbrev pub EndsOf : Bool → ℕ → ℕ → Ends → Type 0
+  EndsOf mirrored p D ends = AreEnds has_run (λ i. head_of mirrored p ((rack_of plan).pieces i)) (λ i. tail_of mirrored p ((rack_of plan).pieces i)) (rack_of plan).models (rack_of plan).grain D ends

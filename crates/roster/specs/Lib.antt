@@ -1,0 +1,9 @@
+pub mod Advancing
+pub mod Coming
+pub mod Filling
+pub mod Keeping
+pub mod Records
+pub mod Reports
+pub mod Seating
+pub mod Telling
+pub mod Turning

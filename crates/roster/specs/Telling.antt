@@ -1,0 +1,30 @@
+-- Which book a roster tells.
+use Rattle.std.specs.Prelude.{◌≡◌, ℕ, ◌-◌, Bool, false, if◌then◌else◌, List, IsTrue, slice_index, slice_index_or}
+use Rattle.kinds.specs.declared.runs.Run.{Run}
+use Rattle.plan.specs.declared.plans.Plan.{Plan}
+use Rattle.book.specs.Racks.{Rack, rack_of}
+use Rattle.book.specs.Books.{Book, is_model_of, is_live, date_of, served}
+use Rattle.book.specs.Calls.{is_group}
+use Rattle.book.specs.Laws.{Reached}
+use Rattle.roster.specs.declared.phase.Phase.{Phase}
+use Rattle.roster.specs.declared.phase.Phase.TheVariants.{Waiting, Live, Withdrawn}
+use Rattle.roster.specs.declared.record.Record.{Record}
+use Rattle.roster.specs.Records.{phase_at}
+
+-- what the book says that a model is doing
+abbrev pub phase_of : Rack → (ℕ → ℕ → Bool) → Book → ℕ → Phase
+phase_of rack dates b i =
+    if b.withdrawn i then Withdrawn
+    else if is_live rack dates b i then Live (date_of rack dates b i) (served rack dates b i)
+    else Waiting
+
+module _ (plan : Plan) (dates : ℕ → ℕ → Bool) (precedes : Run → Run → Bool) (presents : List ℕ) (mirrored : List Bool) (records : List Record) where
+  -- these are what the book says, and calls have led to the book
+  pub record Says (b : Book) : Type 0 where
+    pub reached : Reached plan dates precedes b
+    pub present' : (g : ℕ) → IsTrue (is_group (rack_of plan) g) → slice_index presents (g - 1) ≡ b.present g
+    pub mirrored' : (g : ℕ) → IsTrue (is_group (rack_of plan) g) → slice_index_or mirrored (g - 1) false ≡ b.mirrored g
+    pub phases : (i : ℕ) → IsTrue (is_model_of (rack_of plan) i) → phase_at records (i - 1) ≡ phase_of (rack_of plan) dates b i
+
+  abbrev pub Told : Type 0
+  Told = (b : Book) × Says b

@@ -1,0 +1,57 @@
+//! A roster of runs over a plan, a calendar and an order: interval after interval it gives the sheet that each group of workers obeys.
+#![tactic(auto)]
+
+ghost use Rattle.std.specs.Prelude.{◌≡◌, true, is_none, length};
+ghost use Rattle.book.specs.Racks.{rack_of};
+ghost use Rattle.book.specs.Calls.{about_opening};
+ghost use Rattle.roster.specs.Seating.{ChainedFrom};
+ghost use Rattle.roster.specs.Telling.{Told};
+
+mod advance;
+mod calls;
+mod chains;
+mod coming;
+pub mod event;
+pub mod models;
+mod open;
+pub mod phase;
+pub mod record;
+mod rows;
+
+pub use event::Event;
+pub use models::Models;
+pub use phase::Phase;
+pub use record::Record;
+
+use calendar::Calendar;
+use chains::Chains;
+use kinds::runs::Run;
+use order::Order;
+use plan::groups::Grouping;
+use plan::plans::Plan;
+use set::sizes::WORKERS;
+
+/// Which runs go on, and how far each group has come.
+///
+/// Of each group it holds its present, the tick up to which its sheets go, and whether its next sheet is mirrored; of each model a record.
+/// The plain book holds all sheets and reads the phase of a model off them; a record holds the phase, with what the run got so far.
+/// That this is enough is the fact `told`: there is a book, to which calls have led from the blank one, that says what the fields say.
+/// It borrows the plan, the calendar and the order, and owns no other memory.
+#[derive(Drop)]
+pub struct Roster<'a, C: Calendar, O: Order<Item = Run>> {
+    plan: &'a Plan,
+    calendar: &'a C,
+    order: &'a O,
+    presents: [u32; WORKERS],
+    mirrored: [bool; WORKERS],
+    models: Models,
+    /// what is noted of the plan, so that it is not searched again: which models stand on a worker, and how the workers stand in groups
+    chains: Chains,
+    grouping: Grouping<'a>,
+    ghost groups: { length presents ≡ 32 },
+    ghost flags: { length mirrored ≡ 32 },
+    ghost chained: { ChainedFrom plan.now 0 chains.heads chains.nexts },
+    ghost grouped: { grouping.set.now ≡ plan.now.set },
+    ghost spaced: { is_none (about_opening (rack_of plan.now) (C.spacings calendar.now)) ≡ true },
+    ghost told: { ∥ Told plan.now (C.dates calendar.now) (O.precedes order.now) presents mirrored models.records ∥₁ },
+}

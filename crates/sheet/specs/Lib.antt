@@ -1,0 +1,5 @@
+pub mod Dividing
+pub mod Spans
+pub mod Tables
+pub mod Turns
+pub mod Waiting
