@@ -42,7 +42,11 @@ impl<'a, C: Calendar, O: Order<Item = Run>> Roster<'a, C, O> {
             return Err(Fault::Model.at(Layer::Running, model as u64));
         };
         let present = self.present(model);
-        Ok(self.models.phase(model as usize - 1).standing(weight, present))
+        Ok(
+            self.models
+                .phase(model as usize - 1)
+                .standing(weight, present),
+        )
     }
 
     /// The present of a model is that of its group.

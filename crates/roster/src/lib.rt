@@ -18,17 +18,16 @@ pub mod phase;
 pub mod record;
 mod rows;
 
-pub use event::Event;
-pub use models::Models;
-pub use phase::Phase;
-pub use record::Record;
-
 use calendar::Calendar;
 use chains::Chains;
+pub use event::Event;
 use kinds::runs::Run;
+pub use models::Models;
 use order::Order;
+pub use phase::Phase;
 use plan::groups::Grouping;
 use plan::plans::Plan;
+pub use record::Record;
 use set::sizes::WORKERS;
 
 /// Which runs go on, and how far each group has come.

@@ -21,13 +21,7 @@ mod waiting;
 
 impl<'a, C: Calendar, O: Order<Item = Run>> Roster<'a, C, O> {
     /// The rows of the next interval of a group, which has so many ticks.
-    pub(crate) fn rows(
-        &self,
-        group: u32,
-        workers: Workers,
-        ticks: u32,
-        scratch: &mut [Run],
-    ) -> Rows
+    pub(crate) fn rows(&self, group: u32, workers: Workers, ticks: u32, scratch: &mut [Run]) -> Rows
         requires room { 64 ≤ length scratch.old }
         requires group { GroupIn self.now.plan.now.set group workers.first workers.last }
         ensures rows { (b : Book) → Tells self.now b → AreRows (rack_of self.now.plan.now) (C.dates self.now.calendar.now) (O.precedes self.now.order.now) b ticks workers.first (rows_of result) }

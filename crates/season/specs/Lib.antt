@@ -1,0 +1,4 @@
+pub mod Asking
+pub mod Performing
+pub mod Reading
+pub mod Serving

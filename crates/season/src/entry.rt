@@ -1,0 +1,30 @@
+//! An entry of a list of calls.
+ghost use Rattle.std.specs.Prelude.{◌≡◌};
+ghost use Rattle.roster.specs.Keeping.{Keeps};
+ghost use Rattle.season.specs.Performing.{asked_by, Holds};
+
+use crate::answer::Answer;
+use crate::call::Call;
+use calendar::Calendar;
+use kinds::runs::Run;
+use order::Order;
+use roster::Roster;
+
+/// A call with memory of its own, of any length, and a place for its answer.
+/// Only an advance uses the memory: it asks for 512 words for the sheet and for room for 64 runs in the scratch.
+#[derive(Drop)]
+pub struct Entry<'a> {
+    pub call: Call,
+    pub sheet: &'a mut [u64],
+    pub scratch: &'a mut [Run],
+    pub answer: Option<Answer>,
+}
+
+impl Entry<'_> {
+    /// Makes the call on a roster, and writes down its answer.
+    pub fn perform<C: Calendar, O: Order<Item = Run>>(&mut self, roster: &mut Roster<'_, C, O>)
+        ensures { Keeps roster.old (asked_by self.old) (λ given. Holds self.old given self.new) roster.new }
+    {
+        self.answer = Some(self.call.ask(roster, self.sheet, self.scratch));
+    }
+}
