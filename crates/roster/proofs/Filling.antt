@@ -17,8 +17,8 @@ use Rattle.book.proofs.Holders.{one_end, room}
 use Rattle.queue.specs.declared.Queue.{Queue}
 use Rattle.queue.specs.Queues.{slots_of, count_of, things_of, OneMore, Stays}
 use Rattle.queue.proofs.Stays.{stays_on}
-use Rattle.sheet.specs.Waiting.{runs_of}
-use Rattle.sheet.specs.Dividing.{IsAtEnd}
+use Rattle.roster.specs.Waiting.{runs_of}
+use Rattle.roster.specs.Dividing.{IsAtEnd}
 use Rattle.roster.specs.declared.record.Record.{Record}
 use Rattle.roster.specs.Records.{phase_at}
 use Rattle.roster.specs.Filling.{has_run, is_live_in}

@@ -1,8 +1,10 @@
 pub mod Advancing
 pub mod Asking
 pub mod Checking
+pub mod Dividing
 pub mod Due
 pub mod Filling
+pub mod Lineups
 pub mod Opening
 pub mod Parts
 pub mod Reports
@@ -11,5 +13,9 @@ pub mod Seats
 pub mod Serving
 pub mod Settling
 pub mod Soonest
+pub mod Spans
+pub mod Tables
 pub mod Turning
+pub mod Waiting
 pub mod Withdrawing
+pub mod Words

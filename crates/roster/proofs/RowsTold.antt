@@ -19,10 +19,10 @@ use Rattle.book.proofs.Racks.{rack_of-IsRack}
 use Rattle.book.proofs.Lives.{lives}
 use Rattle.book.proofs.Rows.{spans_in}
 use Rattle.book.proofs.Fits.{spans_few}
-use Rattle.sheet.specs.declared.ends.Ends.{Ends}
-use Rattle.sheet.specs.Waiting.{runs_of}
-use Rattle.sheet.specs.Dividing.{IsAtEnd, AreEnds, Divides}
-use Rattle.sheet.proofs.Dividing.{divides}
+use Rattle.roster.specs.declared.sheet.ends.Ends.{Ends}
+use Rattle.roster.specs.Waiting.{runs_of}
+use Rattle.roster.specs.Dividing.{IsAtEnd, AreEnds, Divides}
+use Rattle.roster.proofs.Dividing.{divides}
 use Rattle.roster.specs.declared.phase.Phase.{Phase}
 use Rattle.roster.specs.declared.phase.Phase.TheVariants.{Waiting, Live, Withdrawn}
 use Rattle.roster.specs.declared.record.Record.{Record}

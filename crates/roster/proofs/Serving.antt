@@ -9,10 +9,10 @@ use Rattle.book.specs.Sheets.{Row}
 use Rattle.roster.specs.declared.phase.Phase.{Phase}
 use Rattle.roster.specs.declared.phase.Phase.TheVariants.{Waiting, Live, Withdrawn}
 use Rattle.roster.specs.declared.event.Event.TheVariants.{Service}
-use Rattle.sheet.specs.declared.span.Span.{Span}
+use Rattle.roster.specs.declared.sheet.span.Span.{Span}
 use Rattle.roster.specs.Records.{met, served_in}
-use Rattle.sheet.specs.Spans.{told_by}
-use Rattle.sheet.specs.Tables.{pieces_of}
+use Rattle.roster.specs.Spans.{told_by}
+use Rattle.roster.specs.Tables.{pieces_of}
 use Rattle.roster.specs.Advancing.{Rises, row_gives, rows_give}
 
 -- parts of nothing change nothing

@@ -2,8 +2,8 @@
 use Rattle.std.specs.Prelude.{ℕ, ◌+◌, ◌-◌, ◌<◌, ◌^◌, Bool, true, false, ◌&&◌, List, IsTrue}
 use Rattle.kinds.specs.declared.runs.Run.{Run}
 use Rattle.plan.specs.declared.plans.Plan.{Plan}
-use Rattle.sheet.specs.declared.ends.Ends.{Ends}
-use Rattle.sheet.specs.Dividing.{AreEnds}
+use Rattle.roster.specs.declared.sheet.ends.Ends.{Ends}
+use Rattle.roster.specs.Dividing.{AreEnds}
 use Rattle.book.specs.Racks.{rack_of, whole_on}
 use Rattle.book.specs.Books.{is_model_of}
 use Rattle.book.specs.Turns.{head_of, tail_of}

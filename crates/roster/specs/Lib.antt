@@ -1,9 +1,14 @@
 pub mod Advancing
 pub mod Coming
+pub mod Dividing
 pub mod Filling
 pub mod Keeping
 pub mod Records
 pub mod Reports
 pub mod Seating
+pub mod Spans
+pub mod Tables
 pub mod Telling
 pub mod Turning
+pub mod Turns
+pub mod Waiting

@@ -1,8 +1,8 @@
 //! What can happen to a model.
 
 /// What can happen to a model.
-#[derive(Clone, Copy, Debug, PartialEq, Eq, Hash)]
-pub enum Event {
+#[derive(Clone, Copy)]
+pub(crate) enum Event {
     /// one of its dates has come
     Date { tick: u32 },
     /// the deadline of its run has come

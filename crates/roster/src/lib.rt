@@ -11,23 +11,21 @@ mod advance;
 mod calls;
 mod chains;
 mod coming;
-pub mod event;
-pub mod models;
+mod event;
+mod models;
 mod open;
-pub mod phase;
-pub mod record;
+mod phase;
+mod record;
 mod rows;
+mod sheet;
 
 use calendar::Calendar;
 use chains::Chains;
-pub use event::Event;
 use kinds::runs::Run;
-pub use models::Models;
+use models::Models;
 use order::Order;
-pub use phase::Phase;
 use plan::groups::Grouping;
 use plan::plans::Plan;
-pub use record::Record;
 use set::sizes::WORKERS;
 
 /// Which runs go on, and how far each group has come.

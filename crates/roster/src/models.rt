@@ -9,9 +9,9 @@ use set::sizes::MODELS;
 mod service;
 
 /// The records of all models, in a plain table; the model in slot *i* has the number *i* + 1.
-#[derive(Clone, Copy, Debug)]
-pub struct Models {
-    pub records: [Record; MODELS],
+#[derive(Clone, Copy)]
+pub(crate) struct Models {
+    pub(crate) records: [Record; MODELS],
     ghost full: { length records ≡ 64 },
 }
 

@@ -12,8 +12,8 @@ use crate::coming::earlier;
 use standing::Standing;
 
 /// What a model is doing. The phase that a standing reports is this one, without what a live run has come to.
-#[derive(Clone, Copy, Debug, PartialEq, Eq, Hash)]
-pub enum Phase {
+#[derive(Clone, Copy)]
+pub(crate) enum Phase {
     /// it has no run, and may have one later
     Waiting,
     /// it has a run since a date, which got so many parts

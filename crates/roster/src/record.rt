@@ -7,9 +7,9 @@ use crate::event::Event;
 use crate::phase::Phase;
 
 /// The record of one model.
-#[derive(Clone, Copy, Debug, PartialEq, Eq, Hash)]
-pub struct Record {
-    pub phase: Phase,
+#[derive(Clone, Copy)]
+pub(crate) struct Record {
+    pub(crate) phase: Phase,
 }
 
 impl Record {

@@ -4,8 +4,8 @@ ghost use Rattle.plan.specs.Groups.{GroupIn};
 ghost use Rattle.book.specs.Books.{Book};
 ghost use Rattle.book.specs.Racks.{rack_of};
 ghost use Rattle.book.specs.Turns.{IsRow, AreRows};
-ghost use Rattle.sheet.specs.Spans.{spans_of};
-ghost use Rattle.sheet.specs.Tables.{rows_of};
+ghost use Rattle.roster.specs.Spans.{spans_of};
+ghost use Rattle.roster.specs.Tables.{rows_of};
 ghost use Rattle.roster.specs.Keeping.{Tells};
 
 use crate::Roster;
@@ -14,7 +14,7 @@ use kinds::runs::Run;
 use order::Order;
 use plan::groups::Workers;
 use queue::Queue;
-use sheet::{Row, Rows};
+use crate::sheet::{Row, Rows};
 
 mod ends;
 mod waiting;

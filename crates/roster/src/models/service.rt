@@ -1,13 +1,13 @@
 //! What an interval gives to each model.
 ghost use Rattle.std.specs.Prelude.{◌≡◌, ◌≤◌, ◌<◌, if◌then◌else◌, ◌==◌, map};
 ghost use Rattle.std.specs.List.{All};
-ghost use Rattle.sheet.specs.Spans.{told_by};
-ghost use Rattle.sheet.specs.Tables.{rows_of};
+ghost use Rattle.roster.specs.Spans.{told_by};
+ghost use Rattle.roster.specs.Tables.{rows_of};
 ghost use Rattle.roster.specs.Advancing.{Rises, row_gives, rows_give, HasRoomFor, Served};
 
 use super::Models;
 use crate::event::Event;
-use sheet::{Rows, Span};
+use crate::sheet::{Rows, Span};
 
 impl Models {
     /// Gives each model the parts of the spans that name it.

@@ -3,7 +3,7 @@ ghost use Rattle.std.specs.Prelude.{◌≡◌, ◌≤◌};
 ghost use Rattle.book.specs.Sums.{up_to};
 ghost use Rattle.book.specs.Racks.{rack_of};
 ghost use Rattle.book.specs.Turns.{head_of};
-ghost use Rattle.sheet.specs.Dividing.{IsAtEnd};
+ghost use Rattle.roster.specs.Dividing.{IsAtEnd};
 ghost use Rattle.roster.specs.Seating.{chain_with};
 ghost use Rattle.roster.specs.Filling.{has_run, EndsOf};
 
@@ -12,7 +12,7 @@ use calendar::Calendar;
 use kinds::runs::Run;
 use order::Order;
 use plan::pieces::Pieces;
-use sheet::Ends;
+use crate::sheet::Ends;
 
 impl<'a, C: Calendar, O: Order<Item = Run>> Roster<'a, C, O> {
     /// The ends of a worker's row in an interval of so many ticks: a mirror swaps the first piece and the second.

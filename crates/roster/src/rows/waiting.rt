@@ -3,7 +3,7 @@ ghost use Rattle.std.specs.Prelude.{◌≡◌, ◌≤◌, length, IsTrue, IsFals
 ghost use Rattle.std.specs.List.Sorted.{IsPermutation};
 ghost use Rattle.queue.specs.Queues.{slots_of, count_of, things_of, Stays};
 ghost use Rattle.book.specs.Racks.{rack_of};
-ghost use Rattle.sheet.specs.Waiting.{runs_of};
+ghost use Rattle.roster.specs.Waiting.{runs_of};
 ghost use Rattle.roster.specs.Filling.{waits_on, run_in};
 
 use crate::Roster;

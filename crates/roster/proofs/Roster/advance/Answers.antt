@@ -10,7 +10,7 @@ use Rattle.refusal.proofs.Firsts.{passed}
 use Rattle.book.specs.Racks.{rack_of}
 use Rattle.book.specs.Books.{entered}
 use Rattle.book.specs.Calls.{Advanced, is_group}
-use Rattle.sheet.specs.Tables.{rows_of}
+use Rattle.roster.specs.Tables.{rows_of}
 use Rattle.std.proofs.lemmas.List.{length-set}
 use Rattle.roster.proofs.Reports.{lawful_over, small}
 use Rattle.book.proofs.Racks.{rack_of-IsRack}

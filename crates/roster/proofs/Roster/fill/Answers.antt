@@ -2,7 +2,7 @@ use Rattle.std.proofs.Common.{◌≡◌, ◌+◌, subst, arith}
 use Rattle.std.specs.Prelude.{slice_index}
 use Rattle.std.specs.List.Sorted.{IsPermutation}
 use Rattle.queue.specs.Queues.{things_of}
-use Rattle.sheet.specs.Waiting.{runs_of}
+use Rattle.roster.specs.Waiting.{runs_of}
 use Rattle.book.specs.Racks.{rack_of}
 use Rattle.roster.specs.Filling.{waits_on, run_in}
 use Rattle.roster.specs.Seating.{NextOn}

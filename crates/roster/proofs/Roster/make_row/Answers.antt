@@ -2,7 +2,7 @@ use Rattle.std.proofs.Common.{◌≡◌, ◌-◌, Bool, false, sym, ap, ◌∙�
 use Rattle.std.specs.Prelude.{slice_index_or}
 use Rattle.queue.specs.Queues.{things_of}
 use Rattle.book.specs.Racks.{rack_of}
-use Rattle.sheet.specs.Spans.{spans_of}
+use Rattle.roster.specs.Spans.{spans_of}
 use Rattle.roster.specs.Filling.{EndsOf}
 use Rattle.roster.proofs.Reports.{lawful_over}
 use Rattle.roster.proofs.RowsTold.{worker_group, row_told}

@@ -3,9 +3,9 @@ use Rattle.std.proofs.lemmas.List.{length_push}
 use mathlib.Core.Logic.{∥∥₁_elim}
 use Rattle.std.proofs.Props.{props}
 use Rattle.book.specs.Racks.{rack_of}
-use Rattle.sheet.specs.Spans.{spans_of}
-use Rattle.sheet.specs.Tables.{rows_of}
-use Rattle.sheet.proofs.Tables.{rows_count, rows_total}
+use Rattle.roster.specs.Spans.{spans_of}
+use Rattle.roster.specs.Tables.{rows_of}
+use Rattle.roster.proofs.Tables.{rows_count, rows_total}
 use Rattle.roster.proofs.Reports.{lawful_over}
 use Rattle.roster.proofs.RowsTold.{rows_more, room_more}
 use Rattle.roster.proofs.Roster.rows.Goals as goal

@@ -3,7 +3,7 @@ use Rattle.book.specs.Racks.{rack_of}
 use Rattle.book.specs.Books.{Book}
 use Rattle.book.specs.Turns.{AreRows}
 use Rattle.roster.specs.Keeping.{Tells}
-use Rattle.sheet.specs.Tables.{rows_of}
+use Rattle.roster.specs.Tables.{rows_of}
 use Rattle.roster.proofs.Roster.rows.Given as goal
 
 abbrev pub invariant-loop-worker : goal.invariant-loop-worker

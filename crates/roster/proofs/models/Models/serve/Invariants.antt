@@ -2,7 +2,7 @@ use Rattle.std.proofs.Common.{◌≡◌, ◌<◌, ◌+◌, ℕ, sum, length, dro
 use Rattle.std.specs.List.{All}
 use Rattle.roster.specs.declared.event.Event.TheVariants.{Service}
 use Rattle.roster.specs.Records.{met, phase_at}
-use Rattle.sheet.specs.Tables.{rows_of}
+use Rattle.roster.specs.Tables.{rows_of}
 use Rattle.roster.specs.Advancing.{Rises, rows_give, HasRoomFor}
 use Rattle.roster.proofs.Serving.{rest_of}
 use Rattle.roster.proofs.models.Models.serve.Given as goal

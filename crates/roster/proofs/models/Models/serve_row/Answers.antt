@@ -1,5 +1,5 @@
 use Rattle.std.proofs.Common.{◌+◌, arith}
-use Rattle.sheet.specs.declared.span.Span.{Span}
+use Rattle.roster.specs.declared.sheet.span.Span.{Span}
 use Rattle.roster.proofs.Serving.{next_rises, next_gives, none_gives, serves_on, room_on, room_first, serves_all}
 use Rattle.roster.proofs.models.Models.serve_row.Goals as goal
 

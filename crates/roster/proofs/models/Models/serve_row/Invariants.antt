@@ -1,7 +1,7 @@
 use Rattle.std.proofs.Common.{◌≡◌, ◌<◌, ◌+◌, ℕ, drop, map}
 use Rattle.roster.specs.declared.event.Event.TheVariants.{Service}
 use Rattle.roster.specs.Records.{met, phase_at}
-use Rattle.sheet.specs.Spans.{told_by}
+use Rattle.roster.specs.Spans.{told_by}
 use Rattle.roster.specs.Advancing.{Rises, row_gives, HasRoomFor}
 use Rattle.roster.proofs.models.Models.serve_row.Given as goal
 

@@ -1,6 +1,0 @@
-use Rattle.std.proofs.Common.{◌≡◌, take, map}
-use Rattle.sheet.specs.declared.span.Span.{Span}
-use Rattle.sheet.proofs.rows.words.put_ends.Given as goal
-
-abbrev pub invariant-loop-i : goal.invariant-loop-i
-invariant-loop-i l = take l.i l.words ≡ map (λ (span : Span). span.end) (take l.i l.spans)
