@@ -5,11 +5,9 @@ use Rattle.std.specs.Bool.{IsTrue, ◌==◌}
 use Rattle.std.proofs.lemmas.Bool.{cases_eq, cases_Bool, eq-eqb, ne_eqb}
 use Rattle.refusal.specs.Refusals.{told}
 use Rattle.refusal.specs.declared.Refusal.{Refusal}
-use Rattle.refusal.proofs.Firsts.{passed}
 use Rattle.kinds.specs.declared.runs.Run.{Run}
 use Rattle.dates.specs.Dates.{Earliest}
 use Rattle.plan.specs.declared.plans.Plan.{Plan}
-use Rattle.plan.specs.Groups.{GroupIn}
 use Rattle.calendar.specs.declared.Calendar.{Ghosts as CalendarMeaning}
 use Rattle.order.specs.declared.Order.{Ghosts as OrderMeaning}
 use Rattle.order.specs.declared.Thing.{Ghosts as ThingMeaning}
@@ -31,10 +29,13 @@ use Rattle.roster.specs.declared.event.Event.TheVariants.{Date, Service}
 use Rattle.roster.specs.declared.record.Record.{Record}
 use Rattle.roster.specs.Records.{met, phase_at}
 use Rattle.roster.specs.Turning.{turned}
-use Rattle.roster.specs.Telling.{phase_of, Says}
-use Rattle.roster.specs.Keeping.{Tells, StepOf, Keeps, Advances}
+use Rattle.roster.specs.Telling.{phase_of, IsBook}
+use Rattle.roster.specs.Keeping.{IsBookOf, StepOf, Keeps, Advances}
 use Rattle.roster.specs.Advancing.{Served, rows_give, Settled, settled}
-use Rattle.roster.specs.Coming.{Comes, dates_in}
+use Rattle.roster.specs.Coming.{dates_in}
+use Rattle.roster.specs.declared.group.Group.{Group}
+use Rattle.roster.specs.Intervals.{IsGroupOf, ComesTo}
+use Rattle.roster.proofs.Checking.{inside_of, is_group_of}
 use Rattle.book.proofs.Keeps.{reached_more}
 use Rattle.roster.proofs.Withdrawing.{gone_phase, refused}
 use Rattle.roster.proofs.Due.{settled_told}
@@ -55,7 +56,7 @@ turned_settled period t parts true (Live d x) = over_true (d + period == t) d (x
 turned_settled period t parts false (Live d x) = refl
 
 module _ {plan : Plan} {dates : ℕ → ℕ → Bool} {spacings : ℕ → ℕ} {precedes : Run → Run → Bool} (lawful : Lawful plan dates spacings precedes) (presents : List ℕ) (mirrored : List Bool) (records mid new : List Record)
-    (b : Book) (says : Says plan dates precedes presents mirrored records b) (g words things : ℕ) (s : Sheet) (fine : about (rack_of plan) b (Advance g words things) ≡ None) (next : IsNext (rack_of plan) dates precedes b g s) where
+    (b : Book) (says : IsBook plan dates precedes presents mirrored records b) (g words things : ℕ) (s : Sheet) (fine : about (rack_of plan) b (Advance g words things) ≡ None) (next : IsNext (rack_of plan) dates precedes b g s) where
   abbrev rack : Rack
   rack = rack_of plan
 
@@ -91,7 +92,7 @@ module _ {plan : Plan} {dates : ℕ → ℕ → Bool} {spacings : ℕ → ℕ} {
     phase_entered = elim (cases_eq (group_with rack i) g) [ inl same ↦ here same | inr other ↦ elsewhere other ]
 
   pub entered_says : Served (rows_give s.rows) records mid → Settled plan dates g s.end mid new → length presents ≡ 32 → length mirrored ≡ 32 → 1 ≤ g → g ≤ 32
-      → Says plan dates precedes (slice_set presents (g - 1) s.end) (slice_set mirrored (g - 1) (not (slice_index_or mirrored (g - 1) false))) new (entered b s)
+      → IsBook plan dates precedes (slice_set presents (g - 1) s.end) (slice_set mirrored (g - 1) (not (slice_index_or mirrored (g - 1) false))) new (entered b s)
   entered_says served settles long wide some last = record {
     reached = reached_more says.reached (advances g words things s fine next);
     present' = λ h is. let w = within_both 1 (rack.group rack.workers) h is in elim (cases_eq h g) [
@@ -109,10 +110,6 @@ module _ {plan : Plan} {dates : ℕ → ℕ → Bool} {spacings : ℕ → ℕ} {
     phases = phase_entered served settles;
   }
 
--- the sheet of an interval, from what the parts of an advance say
-abbrev pub sheet_of : (g start end first : ℕ) → List Row → Sheet
-sheet_of g start end first rows = record { group = g; start = start; end = end; first = first; rows = rows }
-
 module _ {C O : Type 0} {calendar : CalendarMeaning C} {order : OrderMeaning O Run} {thing : ThingMeaning Run} where
   -- a refused advance leaves lent memory as it was
   module _ (x : Roster C O calendar order thing) (g : ℕ) (words : List ℕ) (scratch : List Run) (e : Refusal) where
@@ -123,7 +120,7 @@ module _ {C O : Type 0} {calendar : CalendarMeaning C} {order : OrderMeaning O R
     advance_declines why = refused x (Advance g (length words) (length scratch)) e (λ b tells. why) (Advances (Err e) words words scratch scratch) refused_so
 
     pub advance_rests : about (rack_of x.plan.now) blank (Advance g (length words) (length scratch)) ≡ None → told e ≡ no_moment (rack_of x.plan.now) g
-        → ((b : Book) → Tells x b → AtRest (rack_of x.plan.now) (calendar.dates x.calendar.now) b g) → Keeps x (Advance g (length words) (length scratch)) (Advances (Err e) words words scratch scratch) x
+        → ((b : Book) → IsBookOf x b → AtRest (rack_of x.plan.now) (calendar.dates x.calendar.now) b g) → Keeps x (Advance g (length words) (length scratch)) (Advances (Err e) words words scratch scratch) x
     advance_rests fine is none = record {
       over = record { plan' = refl; calendar' = refl; order' = refl };
       goes = λ b tells. record {
@@ -131,34 +128,19 @@ module _ {C O : Type 0} {calendar : CalendarMeaning C} {order : OrderMeaning O R
         after = b;
         step = subst (λ a. StepOf x b (Advance g (length words) (length scratch)) (Refused a) b) (sym is) (rests g (length words) (length scratch) fine (none b tells));
         gives' = refused_so;
-        tells = tells;
+        is = tells;
       };
     }
 
-  -- the parts of an advance give the book's next sheet
-  pub next_sheet : (x : Roster C O calendar order thing) (b : Book) → Tells x b → (g end first last : ℕ) (rows : List Row) → IsTrue (is_group (rack_of x.plan.now) g)
-      → Earliest (is_moment (rack_of x.plan.now) (calendar.dates x.calendar.now) b g) (b.present g + 1) end
-      → GroupIn x.plan.now.set g first last → first + length rows ≡ last + 1
-      → AreRows (rack_of x.plan.now) (calendar.dates x.calendar.now) (order.precedes x.order.now) b (end - slice_index x.presents (g - 1)) first rows
-      → IsNext (rack_of x.plan.now) (calendar.dates x.calendar.now) (order.precedes x.order.now) b g (sheet_of g (slice_index x.presents (g - 1)) end first rows)
-  next_sheet x b tells g end first last rows is moment workers all are = record {
-    group' = refl;
-    start' = tells.present' g is;
-    moment = moment;
-    last = last;
-    workers = workers;
-    all = all;
-    rows' = are;
-  }
-
   module _ (x : Roster C O calendar order thing) (spacings : ℕ → ℕ) (lawful : Lawful x.plan.now (calendar.dates x.calendar.now) spacings (order.precedes x.order.now))
-      (g end first last words things : ℕ) (rows : List Row) (mid new : List Record) (low : 1 ≤ g) (high : g ≤ 32) (long : length x.presents ≡ 32) (wide : length x.mirrored ≡ 32)
-      (fine : about (rack_of x.plan.now) blank (Advance g words things) ≡ None) (workers : GroupIn x.plan.now.set g first last) (all : first + length rows ≡ last + 1) where
-    abbrev start : ℕ
-    start = slice_index x.presents (g - 1)
+      (group : Group) (is : IsGroupOf x group) (end words things : ℕ) (rows : List Row) (mid new : List Record)
+      (fine : about (rack_of x.plan.now) blank (Advance group.number words things) ≡ None) (all : group.workers.first + length rows ≡ group.workers.last + 1) where
+    abbrev g : ℕ
+    g = group.number
 
-    abbrev sheet : Sheet
-    sheet = sheet_of g start end first rows
+    -- the sheet of the interval
+    abbrev pub sheet : Sheet
+    sheet = record { group = g; start = slice_index x.presents (g - 1); end = end; first = group.workers.first; rows = rows }
 
     -- a withdrawn model is not served
     stays : Served (rows_give rows) x.models.records mid → (i : ℕ) → IsTrue (is_model_of (rack_of x.plan.now) i) → phase_at x.models.records (i - 1) ≡ Withdrawn → phase_at mid (i - 1) ≡ Withdrawn
@@ -166,14 +148,22 @@ module _ {C O : Type 0} {calendar : CalendarMeaning C} {order : OrderMeaning O R
         let w = within_both 1 (rack_of x.plan.now).models i model in
         served (i - 1) (omega (arith, w.0, w.1, x.plan.now.set.sizes.few_models)) ∙ ap (λ p. met p (Service (rows_give rows (i - 1 + 1)))) gone
 
-    pub advanced : Served (rows_give rows) x.models.records mid
-        → (table : List (Option ℕ)) → Comes x.plan.now (calendar.dates x.calendar.now) x.models.records g (start + 1) table → Settled x.plan.now (dates_in table) g end mid new
-        → (b : Book) → Tells x b → Earliest (is_moment (rack_of x.plan.now) (calendar.dates x.calendar.now) b g) (b.present g + 1) end
-        → AreRows (rack_of x.plan.now) (calendar.dates x.calendar.now) (order.precedes x.order.now) b (end - start) first rows
+    -- what the parts of an advance say makes it the book's step
+    pub advanced : Served (rows_give rows) x.models.records mid → (table : List (Option ℕ)) → ComesTo x g table → Settled group.plan.now (dates_in table) g end mid new
+        → (b : Book) → IsBookOf x b → Earliest (is_moment (rack_of x.plan.now) (calendar.dates x.calendar.now) b g) (b.present g + 1) end
+        → AreRows (rack_of x.plan.now) (calendar.dates x.calendar.now) (order.precedes x.order.now) b (end - slice_index x.presents (g - 1)) group.workers.first rows
         → StepOf x b (Advance g words things) (Advanced sheet) (entered b sheet)
-        × Says x.plan.now (calendar.dates x.calendar.now) (order.precedes x.order.now) (slice_set x.presents (g - 1) end) (slice_set x.mirrored (g - 1) (not (slice_index_or x.mirrored (g - 1) false))) new (entered b sheet)
+        × IsBook x.plan.now (calendar.dates x.calendar.now) (order.precedes x.order.now) (slice_set x.presents (g - 1) end) (slice_set x.mirrored (g - 1) (not (slice_index_or x.mirrored (g - 1) false))) new (entered b sheet)
     advanced served table comes settles b tells moment are =
-        let is = (passed (is_group (rack_of x.plan.now) g) _ _ fine).0 in
-        let settles' = settled_told lawful b tells g table end mid new is comes moment (stays served) settles in
-        let next = next_sheet x b tells g end first last rows is moment workers all are in
-        (advances g words things sheet fine next, entered_says lawful x.presents x.mirrored x.models.records mid new b tells g words things sheet fine next served settles' long wide low high)
+        let here = is_group_of x group is in
+        let settles' = settled_told lawful b tells g table end mid new here comes moment (stays served) (subst (λ (p : Plan). Settled p (dates_in table) g end mid new) is.plan' settles) in
+        let next : IsNext (rack_of x.plan.now) (calendar.dates x.calendar.now) (order.precedes x.order.now) b g sheet = record {
+          group' = refl;
+          start' = tells.present' g here;
+          moment = moment;
+          last = group.workers.last;
+          workers = inside_of x group is;
+          all = all;
+          rows' = are;
+        } in
+        (advances g words things sheet fine next, entered_says lawful x.presents x.mirrored x.models.records mid new b tells g words things sheet fine next served settles' x.groups x.flags is.some is.few)

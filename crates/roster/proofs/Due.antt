@@ -19,7 +19,7 @@ use Rattle.roster.specs.declared.phase.Phase.{Phase}
 use Rattle.roster.specs.declared.phase.Phase.TheVariants.{Waiting, Live, Withdrawn}
 use Rattle.roster.specs.declared.record.Record.{Record}
 use Rattle.roster.specs.Records.{phase_at}
-use Rattle.roster.specs.Telling.{Says}
+use Rattle.roster.specs.Telling.{IsBook}
 use Rattle.roster.specs.Advancing.{Soonest, settled, Settled}
 use Rattle.roster.specs.Coming.{deadline_in, moment_of, is_due, coming_at, dates_in, due_by, Comes, next_by}
 use Rattle.roster.proofs.Soonest.{soonest_same, soonest_at, soonest_or, soonest_if, earliest_soonest, some_of_alike, is_known}
@@ -90,7 +90,7 @@ module _ {plan : Plan} {dates : ℕ → ℕ → Bool} {spacings : ℕ → ℕ} {
   pub present_early : Reached plan dates precedes b → (g : ℕ) → b.present g < 2 ^ 30 + 100801
   present_early r = calls_keep Early (λ b g s next. early_entered b g s (moment_early (rack_of-IsRack plan) dates b lawful.calendar g s.end next.moment.date)) (λ b i was. was) r.led (λ g. omega arith)
 
-  module _ {presents : List ℕ} {mirrored : List Bool} {records : List Record} (says : Says plan dates precedes presents mirrored records b) (g : ℕ) where
+  module _ {presents : List ℕ} {mirrored : List Bool} {records : List Record} (says : IsBook plan dates precedes presents mirrored records b) (g : ℕ) where
     -- a roster's records say just what is due in a book that it tells
     pub moment_told : (t : ℕ) → is_moment rack dates b g t ≡ due_by plan dates records g t
     moment_told t = some_of_alike rack.models _ _ (λ i some last.

@@ -19,7 +19,7 @@ use Rattle.roster.specs.declared.phase.Phase.TheVariants.{Waiting, Live}
 use Rattle.roster.specs.declared.event.Event.TheVariants.{Date}
 use Rattle.roster.specs.declared.record.Record.{Record}
 use Rattle.roster.specs.Records.{met, phase_at, altered}
-use Rattle.roster.specs.Telling.{phase_of, Says}
+use Rattle.roster.specs.Telling.{phase_of, IsBook}
 use Rattle.set.proofs.Blanks.{get_or_blank}
 
 -- the first complaint about the first n models
@@ -65,12 +65,12 @@ module _ (plan : Plan) (dates : ℕ → ℕ → Bool) where
     pub done : (i : ℕ) → 1 ≤ i → i ≤ n → phase_at records (i - 1) ≡ phase_of rack dates blank i
     pub rest : (k : ℕ) → n ≤ k → phase_at records k ≡ Waiting
 
-  pub started_dated : (n : ℕ) (records new : List Record) → n < 64 → length records ≡ 64 → IsTrue (is_model_of rack (n + 1)) → IsTrue (dates (n + 1) 0) → new ≡ altered records n (Date 0) → Started n records → Started (n + 1) new
+  pub started_dated : (n : ℕ) (records new : List Record) → n < 64 → length records ≡ 64 → IsTrue (is_model_of rack (n + 1)) → IsTrue (dates (n + 1) 0) → new ≡ altered records n (λ p. met p (Date 0)) → Started n records → Started (n + 1) new
   started_dated n records new small full model date is was = record {
     done = λ i some last. rw is (elim (cases_eq i (n + 1)) [
       | inl this ↦
           let k : i - 1 ≡ n = omega arith in
-          subst (λ j. phase_at (altered records n (Date 0)) j ≡ phase_of rack dates blank i) (sym k) (subst (λ j. phase_at (altered records n (Date 0)) n ≡ phase_of rack dates blank j) (sym this) (ap (λ (r : Record). r.phase) (get_or-set_same records n _ _ (omega arith)) ∙ ap (λ (p : Phase). met p (Date 0)) (was.rest n (omega arith)) ∙ sym (phase_dated (n + 1) model date)))
+          subst (λ j. phase_at (altered records n (λ p. met p (Date 0))) j ≡ phase_of rack dates blank i) (sym k) (subst (λ j. phase_at (altered records n (λ p. met p (Date 0))) n ≡ phase_of rack dates blank j) (sym this) (ap (λ (r : Record). r.phase) (get_or-set_same records n _ _ (omega arith)) ∙ ap (λ (p : Phase). met p (Date 0)) (was.rest n (omega arith)) ∙ sym (phase_dated (n + 1) model date)))
       | inr other ↦ ap (λ (r : Record). r.phase) (get_or-set_other records n (i - 1) _ _ (omega arith)) ∙ was.done i some (omega arith)
     ]);
     rest = λ k l. rw is (ap (λ (r : Record). r.phase) (get_or-set_other records n k _ _ (omega arith)) ∙ was.rest k (omega arith));
@@ -87,7 +87,7 @@ module _ (plan : Plan) (dates : ℕ → ℕ → Bool) where
     rest = λ k l. was.rest k (omega arith);
   }
 
-  pub opened_says : (precedes : Run → Run → Bool) (records : List Record) → ((i : ℕ) → IsTrue (is_model_of rack i) → phase_at records (i - 1) ≡ phase_of rack dates blank i) → Says plan dates precedes (replicate 32 0) (replicate 32 false) records blank
+  pub opened_says : (precedes : Run → Run → Bool) (records : List Record) → ((i : ℕ) → IsTrue (is_model_of rack i) → phase_at records (i - 1) ≡ phase_of rack dates blank i) → IsBook plan dates precedes (replicate 32 0) (replicate 32 false) records blank
   opened_says precedes records start = record {
     reached = record { calls = []; answers = []; led = ends blank };
     present' = λ g h. get_or_blank 32 (g - 1) 0;

@@ -33,8 +33,8 @@ use Rattle.roster.specs.declared.record.Record.{Record}
 use Rattle.roster.specs.declared.Roster.{Roster}
 use Rattle.roster.specs.Records.{phase_at, date_in, served_in}
 use Rattle.roster.specs.Reports.{report_of}
-use Rattle.roster.specs.Telling.{Says}
-use Rattle.roster.specs.Keeping.{Tells, StepOf, Keeps}
+use Rattle.roster.specs.Telling.{IsBook}
+use Rattle.roster.specs.Keeping.{IsBookOf, StepOf, Keeps}
 
 worker_last : (x : Pieces) → worker_of x ≤ last_of x
 worker_last (Whole worker size) = omega arith
@@ -73,7 +73,7 @@ pub lawful_over : {plan : Plan} {dates : ℕ → ℕ → Bool} {spacings : ℕ �
     → is_none (about_opening (rack_of plan) spacings) ≡ true → Lawful plan dates spacings precedes
 lawful_over calendar order spaced = record { calendar = calendar; order = order; spaced = none_is _ spaced }
 
-module _ {plan : Plan} {dates : ℕ → ℕ → Bool} {precedes : Run → Run → Bool} {presents : List ℕ} {mirrored : List Bool} {records : List Record} (b : Book) (says : Says plan dates precedes presents mirrored records b) (i : ℕ) (model : IsTrue (is_model_of (rack_of plan) i)) where
+module _ {plan : Plan} {dates : ℕ → ℕ → Bool} {precedes : Run → Run → Bool} {presents : List ℕ} {mirrored : List Bool} {records : List Record} (b : Book) (says : IsBook plan dates precedes presents mirrored records b) (i : ℕ) (model : IsTrue (is_model_of (rack_of plan) i)) where
   abbrev rack : Rack
   rack = rack_of plan
 
@@ -128,7 +128,7 @@ about_unknown rack b i none = rw none refl
 
 module _ {C O : Type 0} {calendar : CalendarMeaning C} {order : OrderMeaning O Run} {thing : ThingMeaning Run} where
   pub stood : (x : Roster C O calendar order thing) (i : ℕ) (standing : Standing)
-      → ((b : Book) → Tells x b → (about (rack_of x.plan.now) b (AskStanding i) ≡ None) × (reported standing ≡ standing_of (rack_of x.plan.now) (calendar.dates x.calendar.now) b i))
+      → ((b : Book) → IsBookOf x b → (about (rack_of x.plan.now) b (AskStanding i) ≡ None) × (reported standing ≡ standing_of (rack_of x.plan.now) (calendar.dates x.calendar.now) b i))
       → Keeps x (AskStanding i) (λ answer. answer ≡ Stands (reported standing)) x
   stood x i standing why = record {
     over = record { plan' = refl; calendar' = refl; order' = refl };
@@ -137,6 +137,6 @@ module _ {C O : Type 0} {calendar : CalendarMeaning C} {order : OrderMeaning O R
       after = b;
       step = subst (λ (s : Report). StepOf x b (AskStanding i) (Stands s) b) (sym h.1) (stands i h.0);
       gives' = refl;
-      tells = tells;
+      is = tells;
     };
   }

@@ -27,7 +27,7 @@ use Rattle.roster.specs.declared.phase.Phase.{Phase}
 use Rattle.roster.specs.declared.phase.Phase.TheVariants.{Waiting, Live, Withdrawn}
 use Rattle.roster.specs.declared.record.Record.{Record}
 use Rattle.roster.specs.Records.{phase_at, date_in, served_in}
-use Rattle.roster.specs.Telling.{Says}
+use Rattle.roster.specs.Telling.{IsBook}
 use Rattle.roster.specs.Filling.{is_live_in, has_run, waits_on, run_in, Early, EndsOf}
 
 not_true : (gone : Bool) → IsTrue (not gone) → gone ≡ false
@@ -68,7 +68,7 @@ end_same live live' size m same is = record {
   only = λ i h some. is.only i (same i ∙ h) some;
 }
 
-module _ {plan : Plan} {dates : ℕ → ℕ → Bool} {precedes : Run → Run → Bool} {presents : List ℕ} {mirrored : List Bool} {records : List Record} (b : Book) (says : Says plan dates precedes presents mirrored records b) where
+module _ {plan : Plan} {dates : ℕ → ℕ → Bool} {precedes : Run → Run → Bool} {presents : List ℕ} {mirrored : List Bool} {records : List Record} (b : Book) (says : IsBook plan dates precedes presents mirrored records b) where
   abbrev rack : Rack
   rack = rack_of plan
 

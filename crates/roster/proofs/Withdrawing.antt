@@ -24,8 +24,8 @@ use Rattle.calendar.specs.declared.Calendar.{Ghosts as CalendarMeaning}
 use Rattle.order.specs.declared.Order.{Ghosts as OrderMeaning}
 use Rattle.order.specs.declared.Thing.{Ghosts as ThingMeaning}
 use Rattle.roster.specs.declared.Roster.{Roster}
-use Rattle.roster.specs.Keeping.{Tells, Keeps}
-use Rattle.roster.specs.Telling.{phase_of, Says}
+use Rattle.roster.specs.Keeping.{IsBookOf, Keeps}
+use Rattle.roster.specs.Telling.{phase_of, IsBook}
 
 module _ (plan : Plan) where
   pub has_model : (i : ℕ) → HasModel plan.set i → IsTrue (is_model_of (rack_of plan) i)
@@ -71,7 +71,7 @@ module _ (rack : Rack) (dates : ℕ → ℕ → Bool) (b : Book) where
 
 module _ {plan : Plan} {dates : ℕ → ℕ → Bool} {precedes : Run → Run → Bool} {presents : List ℕ} {mirrored : List Bool} (records new : List Record) (b : Book) (i : ℕ) where
   -- the roster that tells a book tells the one without a model when that model's record has met its withdrawal
-  pub withdrawn_says : Says plan dates precedes presents mirrored records b → length records ≡ 64 → IsTrue (is_model_of (rack_of plan) i) → about (rack_of plan) b (Withdraw i) ≡ None → new ≡ altered records (i - 1) Withdrawal → Says plan dates precedes presents mirrored new (without b i)
+  pub withdrawn_says : IsBook plan dates precedes presents mirrored records b → length records ≡ 64 → IsTrue (is_model_of (rack_of plan) i) → about (rack_of plan) b (Withdraw i) ≡ None → new ≡ altered records (i - 1) (λ p. met p Withdrawal) → IsBook plan dates precedes presents mirrored new (without b i)
   withdrawn_says says full model fine is = record {
     reached = reached_more says.reached (withdraws i fine);
     present' = says.present';
@@ -86,8 +86,8 @@ module _ {plan : Plan} {dates : ℕ → ℕ → Bool} {precedes : Run → Run �
   }
 
 module _ {C O : Type 0} {calendar : CalendarMeaning C} {order : OrderMeaning O Run} {thing : ThingMeaning Run} where
-  pub refused : (x : Roster C O calendar order thing) (call : Call) (e : Refusal) → ((b : Book) → Tells x b → about (rack_of x.plan.now) b call ≡ Some (told e)) → (gives : Answer → Type 0) → gives (Refused (told e)) → Keeps x call gives x
+  pub refused : (x : Roster C O calendar order thing) (call : Call) (e : Refusal) → ((b : Book) → IsBookOf x b → about (rack_of x.plan.now) b call ≡ Some (told e)) → (gives : Answer → Type 0) → gives (Refused (told e)) → Keeps x call gives x
   refused x call e why gives is = record {
     over = record { plan' = refl; calendar' = refl; order' = refl };
-    goes = λ b tells. record { answer = Refused (told e); after = b; step = declines call (told e) (why b tells); gives' = is; tells = tells };
+    goes = λ b tells. record { answer = Refused (told e); after = b; step = declines call (told e) (why b tells); gives' = is; is = tells };
   }

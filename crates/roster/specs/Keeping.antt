@@ -1,5 +1,5 @@
 -- What each call keeps between a roster and the books that it tells.
-use Rattle.std.specs.Prelude.{◌≡◌, ℕ, List, Ok, Err, Result}
+use Rattle.std.specs.Prelude.{◌≡◌, ℕ, List, length, Ok, Err, Result}
 use Rattle.kinds.specs.declared.runs.Run.{Run}
 use Rattle.calendar.specs.declared.Calendar.{Ghosts as CalendarMeaning}
 use Rattle.order.specs.declared.Order.{Ghosts as OrderMeaning}
@@ -9,32 +9,36 @@ use Rattle.refusal.specs.declared.Refusal.{Refusal}
 use Rattle.book.specs.Racks.{rack_of}
 use Rattle.plan.specs.declared.plans.Plan.{Plan}
 use Rattle.book.specs.Books.{Book, blank}
-use Rattle.book.specs.Calls.{Call, Answer, Advanced, Refused, Step, numbers_of}
+use Rattle.book.specs.Calls.{Call, Advance, Answer, Advanced, Refused, Step, numbers_of}
 use Rattle.book.specs.Buffers.{Leaves}
 use Rattle.roster.specs.declared.Roster.{Roster}
-use Rattle.roster.specs.Telling.{Says}
+use Rattle.roster.specs.Telling.{IsBook}
 
 -- what a call gave agrees with the book's answer: a refusal by its number, layer and place, and what is no refusal by `agrees`
 abbrev pub Agrees : {A : Type 0} → (A → Answer → Type 0) → Result A Refusal → Answer → Type 0
 Agrees agrees (Ok x) answer = agrees x answer
 Agrees agrees (Err refusal) answer = answer ≡ Refused (told refusal)
 
+-- an advance of a group that is lent these
+abbrev pub advance_of : ℕ → List ℕ → List Run → Call
+advance_of g words scratch = Advance g (length words) (length scratch)
+
 -- the four numbers are those of the answer's sheet
 abbrev pub AreNumbers : ℕ × ℕ × ℕ × ℕ → Answer → Type 0
 AreNumbers numbers (Advanced s) = numbers ≡ numbers_of s
 AreNumbers numbers _ = ⊥
 
--- so do what an advance gave, and what it left in the memory that it was lent
+-- what an advance gave agrees with the book's answer, and so does what it left in the memory that it was lent
 pub record Advances (result : Result (ℕ × ℕ × ℕ × ℕ) Refusal) (words words' : List ℕ) (scratch scratch' : List Run) (answer : Answer) : Type 0 where
   pub agrees : Agrees AreNumbers result answer
   pub leaves : Leaves answer words words' scratch scratch'
 
 module _ {C O : Type 0} {calendar : CalendarMeaning C} {order : OrderMeaning O Run} {thing : ThingMeaning Run} where
-  -- the roster says what the book says, and calls have led to the book
-  abbrev pub Tells : Roster C O calendar order thing → Book → Type 0
-  Tells r = Says r.plan.now (calendar.dates r.calendar.now) (order.precedes r.order.now) r.presents r.mirrored r.models.records
+  -- b is a book of the roster: calls have led to it, and it says what the roster holds
+  abbrev pub IsBookOf : Roster C O calendar order thing → Book → Type 0
+  IsBookOf r = IsBook r.plan.now (calendar.dates r.calendar.now) (order.precedes r.order.now) r.presents r.mirrored r.models.records
 
-  -- by the book of this roster
+  -- a call at a book of this roster
   abbrev pub StepOf : Roster C O calendar order thing → Book → Call → Answer → Book → Type 0
   StepOf r = Step (rack_of r.plan.now) (calendar.dates r.calendar.now) (order.precedes r.order.now)
 
@@ -44,22 +48,22 @@ module _ {C O : Type 0} {calendar : CalendarMeaning C} {order : OrderMeaning O R
     pub calendar' : y.calendar.now ≡ x.calendar.now
     pub order' : y.order.now ≡ x.order.now
 
-  -- by the book b: its answer to a call, of which `gives` holds, and the book after it, which y tells
+  -- a call at the book b: the book's answer, of which `gives` holds, and the book after it, which is one of y
   pub record Goes (x : Roster C O calendar order thing) (call : Call) (gives : Answer → Type 0) (y : Roster C O calendar order thing) (b : Book) : Type 0 where
     pub answer : Answer
     pub after : Book
     pub step : StepOf x b call answer after
     pub gives' : gives answer
-    pub tells : Tells y after
+    pub is : IsBookOf y after
 
-  -- from x to y by a call, whatever book x tells
+  -- from x to y by a call, at whatever book of x; that there is one is a fact of the type
   pub record Keeps (x : Roster C O calendar order thing) (call : Call) (gives : Answer → Type 0) (y : Roster C O calendar order thing) : Type 0 where
     pub over : SameOver x y
-    pub goes : (b : Book) → Tells x b → Goes x call gives y b
+    pub goes : (b : Book) → IsBookOf x b → Goes x call gives y b
 
   -- over these, and nothing was called yet
   pub record Opened (plan : Plan) (c : C) (o : O) (r : Roster C O calendar order thing) : Type 0 where
     pub plan' : r.plan.now ≡ plan
     pub calendar' : r.calendar.now ≡ c
     pub order' : r.order.now ≡ o
-    pub blank' : Tells r blank
+    pub blank' : IsBookOf r blank

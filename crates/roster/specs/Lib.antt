@@ -2,6 +2,7 @@ pub mod Advancing
 pub mod Coming
 pub mod Dividing
 pub mod Filling
+pub mod Intervals
 pub mod Keeping
 pub mod Records
 pub mod Reports

@@ -33,8 +33,9 @@ HasRoom phase Withdrawal = Unit {0}
 abbrev pub phase_at : List Record → ℕ → Phase
 phase_at records k = (slice_index_or records k (record { phase = Waiting })).phase
 
-abbrev pub altered : List Record → ℕ → Event → List Record
-altered records k event = slice_set records k (record { phase = met (phase_at records k) event })
+-- one record is altered
+abbrev pub altered : List Record → ℕ → (Phase → Phase) → List Record
+altered records k f = slice_set records k (record { phase = f (phase_at records k) })
 
 -- its date, and 0 where there is none
 abbrev pub date_in : Phase → ℕ

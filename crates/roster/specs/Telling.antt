@@ -18,13 +18,18 @@ phase_of rack dates b i =
     else if is_live rack dates b i then Live (date_of rack dates b i) (served rack dates b i)
     else Waiting
 
+-- these records hold what the book says
+abbrev pub Phases : Plan → (ℕ → ℕ → Bool) → Book → List Record → Type 0
+Phases plan dates b records = (i : ℕ) → IsTrue (is_model_of (rack_of plan) i) → phase_at records (i - 1) ≡ phase_of (rack_of plan) dates b i
+
 module _ (plan : Plan) (dates : ℕ → ℕ → Bool) (precedes : Run → Run → Bool) (presents : List ℕ) (mirrored : List Bool) (records : List Record) where
-  -- these are what the book says, and calls have led to the book
-  pub record Says (b : Book) : Type 0 where
+  -- calls have led to this book, and all these are what it says
+  pub record IsBook (b : Book) : Type 0 where
     pub reached : Reached plan dates precedes b
     pub present' : (g : ℕ) → IsTrue (is_group (rack_of plan) g) → slice_index presents (g - 1) ≡ b.present g
     pub mirrored' : (g : ℕ) → IsTrue (is_group (rack_of plan) g) → slice_index_or mirrored (g - 1) false ≡ b.mirrored g
-    pub phases : (i : ℕ) → IsTrue (is_model_of (rack_of plan) i) → phase_at records (i - 1) ≡ phase_of (rack_of plan) dates b i
+    pub phases : Phases plan dates b records
 
-  abbrev pub Told : Type 0
-  Told = (b : Book) × Says b
+  -- there is such a book
+  abbrev pub HasBook : Type 0
+  HasBook = (b : Book) × IsBook b

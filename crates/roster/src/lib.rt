@@ -5,13 +5,14 @@ ghost use Rattle.std.specs.Prelude.{◌≡◌, true, is_none, length};
 ghost use Rattle.book.specs.Racks.{rack_of};
 ghost use Rattle.book.specs.Calls.{about_opening};
 ghost use Rattle.roster.specs.Seating.{ChainedFrom};
-ghost use Rattle.roster.specs.Telling.{Told};
+ghost use Rattle.roster.specs.Telling.{HasBook};
 
 mod advance;
 mod calls;
 mod chains;
 mod coming;
 mod event;
+mod group;
 mod models;
 mod open;
 mod phase;
@@ -50,5 +51,5 @@ pub struct Roster<'a, C: Calendar, O: Order<Item = Run>> {
     ghost chained: { ChainedFrom plan.now 0 chains.heads chains.nexts },
     ghost grouped: { grouping.set.now ≡ plan.now.set },
     ghost spaced: { is_none (about_opening (rack_of plan.now) (C.spacings calendar.now)) ≡ true },
-    ghost told: { ∥ Told plan.now (C.dates calendar.now) (O.precedes order.now) presents mirrored models.records ∥₁ },
+    ghost booked: { ∥ HasBook plan.now (C.dates calendar.now) (O.precedes order.now) presents mirrored models.records ∥₁ },
 }

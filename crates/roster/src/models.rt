@@ -16,8 +16,8 @@ pub(crate) struct Models {
 }
 
 impl Models {
-    ghost use Rattle.std.specs.Prelude.{◌<◌, ℕ, slice_set};
-    ghost use Rattle.roster.specs.Records.{HasRoom, phase_at, altered};
+    ghost use Rattle.std.specs.Prelude.{◌<◌, ℕ};
+    ghost use Rattle.roster.specs.Records.{met, HasRoom, phase_at, altered};
     ghost use Rattle.roster.specs.Advancing.{settled};
 
     /// All wait.
@@ -44,7 +44,7 @@ impl Models {
     pub(crate) fn meet(&mut self, slot: usize, event: Event)
         requires slot { slot < 64 }
         requires room { HasRoom (phase_at self.old.records slot) event }
-        ensures { self.new.records ≡ altered self.old.records slot event }
+        ensures { self.new.records ≡ altered self.old.records slot (λ phase. met phase event) }
     {
         self.records[slot].meet(event);
     }
@@ -52,7 +52,7 @@ impl Models {
     /// One record is lent, and settled at a tick.
     pub(crate) fn settle(&mut self, slot: usize, period: u32, dated: bool, tick: u32)
         requires { slot < 64 }
-        ensures { self.new.records ≡ slice_set self.old.records slot (record { phase = settled period dated tick (phase_at self.old.records slot) }) }
+        ensures { self.new.records ≡ altered self.old.records slot (settled period dated tick) }
     {
         self.records[slot].settle(period, dated, tick);
     }

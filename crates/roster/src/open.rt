@@ -1,11 +1,10 @@
 //! How a roster is opened.
-ghost use Rattle.std.specs.Prelude.{◌≡◌, ◌-◌, ℕ, IsTrue};
+ghost use Rattle.std.specs.Prelude.{◌≡◌};
 ghost use Rattle.refusal.specs.Refusals.{Answers};
 ghost use Rattle.book.specs.Racks.{rack_of};
-ghost use Rattle.book.specs.Books.{blank, is_model_of};
+ghost use Rattle.book.specs.Books.{blank};
 ghost use Rattle.book.specs.Calls.{about_opening};
-ghost use Rattle.roster.specs.Records.{phase_at};
-ghost use Rattle.roster.specs.Telling.{phase_of};
+ghost use Rattle.roster.specs.Telling.{Phases};
 ghost use Rattle.roster.specs.Keeping.{Opened};
 
 use crate::Roster;
@@ -54,7 +53,7 @@ fn check<C: Calendar>(plan: &Plan, calendar: &C) -> Result<(), Refusal>
 
 /// What each model is doing at tick 0.
 fn start<C: Calendar>(plan: &Plan, calendar: &C) -> Models
-    ensures { (i : ℕ) → IsTrue (is_model_of (rack_of plan.now) i) → phase_at result.records (i - 1) ≡ phase_of (rack_of plan.now) (C.dates calendar.now) blank i }
+    ensures { Phases plan.now (C.dates calendar.now) blank result.records }
 {
     let mut models = Models::new();
     for slot in 0..plan.set.sizes.models {

@@ -13,7 +13,7 @@ use Rattle.season.specs.declared.call.Call.{Call}
 use Rattle.season.specs.declared.call.Call.TheVariants as call
 use Rattle.season.specs.declared.answer.Answer.{Answer}
 use Rattle.season.specs.declared.entry.Entry.{Entry}
-use Rattle.season.specs.Asking.{asked, Says, advanced, withdrew as says_withdrew, stands as says_stands, refused}
+use Rattle.season.specs.Asking.{asked, IsAnswer, advanced, withdrew as says_withdrew, stands as says_stands, refused}
 use Rattle.season.specs.Reading.{sheet_in, sheets_in}
 use Rattle.season.specs.Serving.{taken_to, withdrew, one_withdrew}
 use Rattle.season.specs.Performing.{asked_by, Holds, Hold, hold_none, hold_more}
@@ -69,7 +69,7 @@ module _ (rack : Rack) (dates : ℕ → ℕ → Bool) (precedes : Run → Run �
   taken_one b _ _ _ (m ∷ added) g (stands _ fine) is = absurd (not_longer b.sheets added m is)
 
   -- what a call does not withdraw stays
-  kept_one : (b : Book) (call : Call) (n m : ℕ) (given : Given) (c : Book) (a : Answer) (i : ℕ) → Step rack dates precedes b (asked call n m) given c → Says a given → IsFalse (withdrew i call (Some a)) → IsFalse (b.withdrawn i) → IsFalse (c.withdrawn i)
+  kept_one : (b : Book) (call : Call) (n : List ℕ) (m : List Run) (given : Given) (c : Book) (a : Answer) (i : ℕ) → Step rack dates precedes b (asked call n m) given c → IsAnswer a given → IsFalse (withdrew i call (Some a)) → IsFalse (b.withdrawn i) → IsFalse (c.withdrawn i)
   kept_one b (call.Advance g) n m _ _ a i (declines _ x why) says none kept = kept
   kept_one b (call.Advance g) n m _ _ a i (rests _ _ _ fine last) says none kept = kept
   kept_one b (call.Advance g) n m _ _ a i (advances _ _ _ s fine next) says none kept = kept
@@ -79,7 +79,7 @@ module _ (rack : Rack) (dates : ℕ → ℕ → Bool) (precedes : Run → Run �
   kept_one b (call.Standing j) n m _ _ a i (stands _ fine) says none kept = kept
 
   -- a call that withdrew a model
-  out_one : (b : Book) (call : Call) (n m : ℕ) (given : Given) (c : Book) (a : Answer) (i : ℕ) → Step rack dates precedes b (asked call n m) given c → Says a given → IsTrue (withdrew i call (Some a)) → Step rack dates precedes b (Withdraw i) Withdrew c
+  out_one : (b : Book) (call : Call) (n : List ℕ) (m : List Run) (given : Given) (c : Book) (a : Answer) (i : ℕ) → Step rack dates precedes b (asked call n m) given c → IsAnswer a given → IsTrue (withdrew i call (Some a)) → Step rack dates precedes b (Withdraw i) Withdrew c
   out_one b (call.Withdraw j) n m _ c _ i step says_withdrew out = subst (λ (k : ℕ). Step rack dates precedes b (Withdraw k) Withdrew c) (sym (eqb-true i j out)) step
   out_one b (call.Withdraw j) n m _ c _ i step (advanced start end first count s is) out = absurd (cc)
   out_one b (call.Withdraw j) n m _ c _ i step (says_stands standing report is) out = absurd (cc)
@@ -115,7 +115,7 @@ module _ (rack : Rack) (dates : ℕ → ℕ → Bool) (precedes : Run → Run �
             ∙ sym (taken-append g (b.present g) (sheet_in new.call new.answer new.sheet.now) (sheets_in (take k news)));
         kept = λ i was none.
             let (here, later) = either (withdrew i new.call new.answer) (one_withdrew i (take k news)) none in
-            w.kept i (kept_one b old.call _ _ given c one.answer i step one.says (rw (one.call', one.answer') at here) was) later;
+            w.kept i (kept_one b old.call _ _ given c one.answer i step one.gives.is (rw (one.call', one.answer') at here) was) later;
         follow = w.follow;
         hold = w.hold;
       }
@@ -144,7 +144,7 @@ module _ (rack : Rack) (dates : ℕ → ℕ → Bool) (precedes : Run → Run �
   next_adds b e entry s w reads = adds b (asked_by w.old) w.given w.after s w.step (held_entry b w.after w.old entry w.given w.step w.holds ∙ ap (λ (ss : List Sheet). b.sheets ++ ss) reads)
 
   pub next_out : (b e : Book) (entry : Entry) (i : ℕ) (w : Next b e entry) → IsTrue (withdrew i entry.call entry.answer) → Step rack dates precedes b (Withdraw i) Withdrew w.after
-  next_out b e entry i w out = out_one b w.old.call _ _ w.given w.after w.holds.answer i w.step w.holds.says (rw (w.holds.call', w.holds.answer') at out)
+  next_out b e entry i w out = out_one b w.old.call _ _ w.given w.after w.holds.answer i w.step w.holds.gives.is (rw (w.holds.call', w.holds.answer') at out)
 
 pub slice_get-drop : {X : Type 0} (xs : List X) (k : ℕ) → slice_get (drop k xs) 0 ≡ slice_get xs k
 slice_get-drop xs zero = refl

@@ -14,7 +14,7 @@ use Rattle.book.specs.Laws.{Lawful}
 use Rattle.book.proofs.Keeps.{leads_more}
 use Rattle.book.proofs.Once.{leads_once}
 use Rattle.roster.specs.declared.Roster.{Roster}
-use Rattle.roster.specs.Keeping.{Tells, StepOf, Keeps, Opened}
+use Rattle.roster.specs.Keeping.{IsBookOf, StepOf, Keeps, Opened}
 use Rattle.season.specs.declared.entry.Entry.{Entry}
 use Rattle.season.specs.Performing.{asked_by, Holds, Hold, hold_none, hold_more, Performed}
 use Rattle.season.proofs.Reading.{held_all}
@@ -35,7 +35,7 @@ module _ {C O : Type 0} {calendar : CalendarMeaning C} {order : OrderMeaning O R
     pub givens : List Given
     pub book : Book
     pub led : Leads (rack_of plan) (calendar.dates c) (order.precedes o) blank (map asked_by olds) givens book
-    pub tells : Tells x book
+    pub tells : IsBookOf x book
     pub hold : Hold olds givens news
 
   pub told_none : (x : Roster C O calendar order thing) → Opened plan c o x → Told [] [] x
@@ -66,7 +66,7 @@ module _ {C O : Type 0} {calendar : CalendarMeaning C} {order : OrderMeaning O R
         givens = told.givens ++ w.answer ∷ [];
         book = w.after;
         led = subst (λ (cs : List Asked). Leads (rack_of plan) (calendar.dates c) (order.precedes o) blank cs (told.givens ++ w.answer ∷ []) w.after) calls led;
-        tells = w.tells;
+        tells = w.is;
         hold = subst (λ (ns : List Entry). Hold (take (k + 1) olds) (told.givens ++ w.answer ∷ []) ns) (sym (take_more_set news k new (omega arith))) (subst (λ (os : List Entry). Hold os (told.givens ++ w.answer ∷ []) (take k news ++ new ∷ [])) (sym front) hold);
       }
 

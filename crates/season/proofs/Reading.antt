@@ -14,7 +14,7 @@ use Rattle.season.specs.declared.call.Call.TheVariants as call
 use Rattle.season.specs.declared.answer.Answer.{Answer}
 use Rattle.season.specs.declared.answer.Answer.TheVariants as answer
 use Rattle.season.specs.declared.entry.Entry.{Entry}
-use Rattle.season.specs.Asking.{asked, Says, advanced, withdrew, stands as says_stands, refused}
+use Rattle.season.specs.Asking.{asked, IsAnswer, advanced, withdrew, stands as says_stands, refused}
 use Rattle.season.specs.Reading.{row_from, rows_from, rows_in, sheet_in, sheets_in}
 use Rattle.season.specs.Performing.{asked_by, Holds, Hold, hold_none, hold_more}
 
@@ -76,7 +76,7 @@ sheet_read s start end first count words is =
 
 module _ {rack : Rack} {dates : ℕ → ℕ → Bool} {precedes : Run → Run → Bool} where
   -- a call adds to the sheets of the book what its entry holds
-  held_one : (b : Book) (call : Call) (n m : ℕ) (given : Given) (c : Book) (a : Answer) (old : List ℕ) → Step rack dates precedes b (asked call n m) given c → Says a given
+  held_one : (b : Book) (call : Call) (n : List ℕ) (m : List Run) (given : Given) (c : Book) (a : Answer) (old : List ℕ) → Step rack dates precedes b (asked call n m) given c → IsAnswer a given
       → c.sheets ≡ b.sheets ++ sheet_in call (Some a) (words_after given old)
   held_one b (call.Advance g) n m _ _ _ old (declines _ _ why) (refused e x told) = sym (append-nil b.sheets)
   held_one b (call.Advance g) n m _ _ _ old (rests _ _ _ fine last) (refused e x told) = sym (append-nil b.sheets)
@@ -89,7 +89,7 @@ module _ {rack : Rack} {dates : ℕ → ℕ → Bool} {precedes : Run → Run �
 
   pub held_entry : (b c : Book) (old new : Entry) (given : Given) → Step rack dates precedes b (asked_by old) given c → Holds old given new → c.sheets ≡ b.sheets ++ sheet_in new.call new.answer new.sheet.now
   held_entry b c old new given step holds =
-      rw (holds.call', holds.answer', holds.leaves.in_words) (held_one b old.call _ _ given c holds.answer old.sheet.now step holds.says)
+      rw (holds.call', holds.answer', holds.gives.leaves.in_words) (held_one b old.call _ _ given c holds.answer old.sheet.now step holds.gives.is)
 
   -- and all calls what all entries hold
   pub held_all : (b e : Book) (olds news : List Entry) (givens : List Given) → Leads rack dates precedes b (map asked_by olds) givens e → Hold olds givens news → e.sheets ≡ b.sheets ++ sheets_in news

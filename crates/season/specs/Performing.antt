@@ -3,25 +3,23 @@ use Rattle.std.specs.Prelude.{◌≡◌, ℕ, Bool, List, [], ◌∷◌, length,
 use Rattle.kinds.specs.declared.runs.Run.{Run}
 use Rattle.plan.specs.declared.plans.Plan.{Plan}
 use Rattle.book.specs.Calls.{Call as Asked, Answer as Given}
-use Rattle.book.specs.Buffers.{Leaves}
 use Rattle.book.specs.Laws.{Answered}
 use Rattle.season.specs.declared.answer.Answer.{Answer}
 use Rattle.season.specs.declared.entry.Entry.{Entry}
-use Rattle.season.specs.Asking.{asked, Says}
+use Rattle.season.specs.Asking.{asked, Gives}
 use Rattle.season.specs.Reading.{sheets_in}
 use Rattle.season.specs.Serving.{Serves}
 
 -- the call of an entry, as the book takes it
 abbrev pub asked_by : Entry → Asked
-asked_by entry = asked entry.call (length entry.sheet.now) (length entry.scratch.now)
+asked_by entry = asked entry.call entry.sheet.now entry.scratch.now
 
 -- an entry after its call, to which the book answers so
 pub record Holds (old : Entry) (given : Given) (new : Entry) : Type 0 where
   pub call' : new.call ≡ old.call
   pub answer : Answer
   pub answer' : new.answer ≡ Some answer
-  pub says : Says answer given
-  pub leaves : Leaves given old.sheet.now new.sheet.now old.scratch.now new.scratch.now
+  pub gives : Gives answer old.sheet.now new.sheet.now old.scratch.now new.scratch.now given
   -- it is the same memory, and as long
   pub long : (length new.sheet.now ≡ length old.sheet.now) × (length new.scratch.now ≡ length old.scratch.now)
   pub same_sheet : new.sheet.ghost_name ≡ old.sheet.ghost_name

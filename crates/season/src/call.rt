@@ -1,8 +1,7 @@
 //! What is asked of a roster.
 ghost use Rattle.std.specs.Prelude.{◌≡◌, length};
-ghost use Rattle.book.specs.Buffers.{Leaves};
 ghost use Rattle.roster.specs.Keeping.{Keeps};
-ghost use Rattle.season.specs.Asking.{asked, Says};
+ghost use Rattle.season.specs.Asking.{asked, Gives};
 
 use crate::answer::Answer;
 use calendar::Calendar;
@@ -29,7 +28,7 @@ impl Call {
         sheet: &mut [u64],
         scratch: &mut [Run],
     ) -> Answer
-        ensures asks { Keeps roster.old (asked self (length sheet.old) (length scratch.old)) (λ given. Says result given × Leaves given sheet.old sheet.new scratch.old scratch.new) roster.new }
+        ensures asks { Keeps roster.old (asked self sheet.old scratch.old) (Gives result sheet.old sheet.new scratch.old scratch.new) roster.new }
         ensures room { (length sheet.new ≡ length sheet.old) × (length scratch.new ≡ length scratch.old) }
     {
         match self {

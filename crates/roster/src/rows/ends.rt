@@ -1,18 +1,16 @@
 //! The pieces at the two ends of a worker's row.
 ghost use Rattle.std.specs.Prelude.{◌≡◌, ◌≤◌};
-ghost use Rattle.book.specs.Sums.{up_to};
 ghost use Rattle.book.specs.Racks.{rack_of};
 ghost use Rattle.book.specs.Turns.{head_of};
-ghost use Rattle.roster.specs.Dividing.{IsAtEnd};
 ghost use Rattle.roster.specs.Seating.{chain_with};
-ghost use Rattle.roster.specs.Filling.{has_run, EndsOf};
+ghost use Rattle.roster.specs.Filling.{parts_at, StandsAt, EndsOf};
 
 use crate::Roster;
+use crate::sheet::Ends;
 use calendar::Calendar;
 use kinds::runs::Run;
 use order::Order;
 use plan::pieces::Pieces;
-use crate::sheet::Ends;
 
 impl<'a, C: Calendar, O: Order<Item = Run>> Roster<'a, C, O> {
     /// The ends of a worker's row in an interval of so many ticks: a mirror swaps the first piece and the second.
@@ -37,8 +35,8 @@ impl<'a, C: Calendar, O: Order<Item = Run>> Roster<'a, C, O> {
     /// At most one model has one there, so the sum is its size.
     fn end(&self, worker: u32, second: bool) -> (u64, u32)
         requires { (1 ≤ worker) × (worker ≤ (rack_of self.now.plan.now).workers) }
-        ensures size { result.0 ≡ up_to (rack_of self.now.plan.now).models (λ i. head_of second worker ((rack_of self.now.plan.now).pieces i)) }
-        ensures model { IsAtEnd (has_run self.now.plan.now self.now.models.records) (λ i. head_of second worker ((rack_of self.now.plan.now).pieces i)) result.1 }
+        ensures size { result.0 ≡ parts_at self.now.plan.now second worker }
+        ensures model { StandsAt self.now.plan.now self.now.models.records second worker result.1 }
     {
         let mut size = 0;
         let mut model = 0;

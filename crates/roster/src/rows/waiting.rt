@@ -1,10 +1,9 @@
 //! The undivided runs of a worker.
-ghost use Rattle.std.specs.Prelude.{◌≡◌, ◌≤◌, length, IsTrue, IsFalse, MatchOption};
+ghost use Rattle.std.specs.Prelude.{◌≡◌, ◌≤◌, length};
 ghost use Rattle.std.specs.List.Sorted.{IsPermutation};
 ghost use Rattle.queue.specs.Queues.{slots_of, count_of, things_of, Stays};
 ghost use Rattle.book.specs.Racks.{rack_of};
-ghost use Rattle.roster.specs.Waiting.{runs_of};
-ghost use Rattle.roster.specs.Filling.{waits_on, run_in};
+ghost use Rattle.roster.specs.Filling.{waiting_on, IsWaiting};
 
 use crate::Roster;
 use crate::phase::Phase;
@@ -20,7 +19,7 @@ impl<'a, C: Calendar, O: Order<Item = Run>> Roster<'a, C, O> {
         requires worker { worker ≤ (rack_of self.now.plan.now).workers }
         requires empty { count_of queue.old ≡ 0 }
         requires room { 64 ≤ length (slots_of queue.old) }
-        ensures holds { IsPermutation (runs_of (waits_on self.now.plan.now self.now.models.records worker) (run_in self.now.plan.now self.now.models.records) (rack_of self.now.plan.now).models) (things_of queue.new) }
+        ensures holds { IsPermutation (waiting_on self.now.plan.now self.now.models.records worker) (things_of queue.new) }
         ensures few { count_of queue.new ≤ 64 }
         ensures stays { Stays (O.precedes self.now.order.now) 64 queue.old queue.new }
     {
@@ -36,7 +35,7 @@ impl<'a, C: Calendar, O: Order<Item = Run>> Roster<'a, C, O> {
 
     /// The run of a model, if it has one and is whole on a worker.
     fn waiting(&self, worker: u32, model: u32) -> Option<Run>
-        ensures { MatchOption result (IsFalse (waits_on self.now.plan.now self.now.models.records worker model)) (λ run. IsTrue (waits_on self.now.plan.now self.now.models.records worker model) × (run ≡ run_in self.now.plan.now self.now.models.records model)) }
+        ensures { IsWaiting self.now.plan.now self.now.models.records worker model result }
     {
         let slot = self.plan.set.slot(model)?;
         let parts = self.plan.set.run_parts(model)?;

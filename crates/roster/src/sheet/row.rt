@@ -48,7 +48,12 @@ impl Row {
 
     /// Makes it the row of a worker on which these runs wait for their turns between its two ends.
     /// Runs for which no part is left stay in the queue.
-    pub(crate) fn make<O: Order<Item = Run>>(&mut self, ends: Ends, queue: &mut Queue<'_, Run>, order: &O)
+    pub(crate) fn make<O: Order<Item = Run>>(
+        &mut self,
+        ends: Ends,
+        queue: &mut Queue<'_, Run>,
+        order: &O,
+    )
         requires few { count_of queue.old ≤ 64 }
         requires ordered { Ordered (O.precedes order.now) queue.old }
         ensures says { (has : ℕ → ℕ → Bool) → Divides (O.precedes order.now) (things_of queue.old) ends has → Says ends.long has (spans_of self.new) }

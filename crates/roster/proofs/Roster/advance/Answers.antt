@@ -1,35 +1,39 @@
-use Rattle.std.proofs.Common.{◌≡◌, ◌-◌, ◌+◌, ◌*◌, ◌^◌, ◌≤◌, ap, ◌∙◌, refl, subst, length, arith}
+use Rattle.std.proofs.Common.{◌≡◌, ℕ, ◌-◌, ◌+◌, ◌*◌, ◌^◌, ◌≤◌, None, ap, sym, ◌∙◌, refl, subst, length, arith}
 use mathlib.Core.Logic.{∥∥₁_elim, ∥∥₁_map}
 use Rattle.std.proofs.Props.{props}
 use Rattle.std.proofs.lemmas.Result.{err_from_is_err_and}
 use Rattle.std.proofs.lemmas.Nat.{mul-le}
-use Rattle.std.specs.Prelude.{slice_index}
-use Rattle.roster.specs.Records.{phase_at, served_in}
-use Rattle.refusal.specs.Refusals.{told}
-use Rattle.refusal.proofs.Firsts.{passed}
-use Rattle.book.specs.Racks.{rack_of}
-use Rattle.book.specs.Books.{entered}
-use Rattle.book.specs.Calls.{Advanced, is_group}
-use Rattle.roster.specs.Tables.{rows_of}
 use Rattle.std.proofs.lemmas.List.{length-set}
-use Rattle.roster.proofs.Reports.{lawful_over, small}
+use Rattle.std.specs.Prelude.{slice_index}
+use Rattle.refusal.specs.Refusals.{told}
+use Rattle.plan.specs.declared.plans.Plan.{Plan}
+use Rattle.book.specs.Racks.{rack_of}
+use Rattle.book.specs.Sheets.{Sheet}
+use Rattle.book.specs.Books.{entered}
+use Rattle.book.specs.Calls.{Advanced}
 use Rattle.book.proofs.Racks.{rack_of-IsRack}
+use Rattle.roster.specs.Records.{phase_at, served_in}
+use Rattle.roster.specs.Tables.{rows_of}
+use Rattle.roster.specs.Advancing.{Settled}
+use Rattle.roster.specs.Coming.{dates_in}
+use Rattle.roster.specs.Keeping.{Keeps, Advances, advance_of}
+use Rattle.roster.proofs.Reports.{lawful_over, small}
+use Rattle.roster.proofs.Checking.{lent_enough}
 use Rattle.roster.proofs.Parts.{rows_rise, all_rise-prop, gets_few, gets_model}
-use Rattle.roster.proofs.Advancing.{advance_declines, advance_rests, sheet_of, advanced}
+use Rattle.roster.proofs.Advancing.{advance_declines, advance_rests, sheet, advanced}
 use Rattle.roster.proofs.Roster.advance.Goals as goal
 
-pub returns-in_err-workers-clause-keeps : goal.returns-in_err-workers-clause-keeps
-returns-in_err-workers-clause-keeps g c =
-    let x = c.args.self.now in
+pub returns-in_err-group-clause-keeps : goal.returns-in_err-group-clause-keeps
+returns-in_err-group-clause-keeps g c =
     let p = err_from_is_err_and c.from_residual.result c.from_residual.ensures.1 in
-    rw (p.1, p.2) (advance_declines x c.args.group c.args.sheet.now c.args.scratch.now c.in_err-workers.field-0.0 c.in_err-workers.ensures.answers)
+    rw (p.1, p.2) (advance_declines c.args.self.now c.args.group c.args.sheet.now c.args.scratch.now c.in_err-group.field-0.0 c.in_err-group.ensures)
 
 pub returns-in_default-clause-keeps : goal.returns-in_default-clause-keeps
 returns-in_default-clause-keeps g c =
-    advance_rests c.args.self.now c.args.group c.args.sheet.now c.args.scratch.now c.at.result c.in_ok-workers.ensures.answers.0 (ap told c.at.ensures) c.in_default.ensures.next
-
-pub next-requires-clause-group : goal.next-requires-clause-group
-next-requires-clause-group g c = (passed (is_group (rack_of c.args.self.now.plan.now) c.args.group) _ _ c.in_ok-workers.ensures.answers.0).0
+    let x = c.args.self.now in
+    let w = c.in_ok-group in
+    let fine = rw (← w.ensures.1.0) at w.ensures.0 in
+    rw (← w.ensures.1.0) (advance_rests x w.group.number c.args.sheet.now c.args.scratch.now c.at.result fine (ap told c.at.ensures) c.in_default.ensures.next)
 
 pub serve-requires : goal.serve-requires
 serve-requires g c =
@@ -39,12 +43,13 @@ serve-requires g c =
     let dates = g.C.Calendar.dates x.calendar.now in
     let precedes = g.O.Order.precedes x.order.now in
     let lawful = lawful_over (g.met.C.Calendar.laws x.calendar.now) (g.met.O.Order.laws x.order.now) x.spaced in
-    let ticks = c.in-Some.end - slice_index x.presents (c.args.group - 1) in
-    let first = c.in_ok-workers.workers.first in
+    let group = c.in_ok-group.group in
+    let ticks = c.in-Some.end - slice_index x.presents (group.number - 1) in
+    let first = group.workers.first in
     let rows = rows_of c.rows-rows.result in
     record {
-      rises = ∥∥₁_elim x.told (all_rise-prop rows) (λ t. rows_rise ok dates precedes t.0 ticks first rows (c.rows-rows.ensures.rows t.0 t.1));
-      room = λ k l some. ∥∥₁_elim x.told (hlevel props) (λ t.
+      rises = ∥∥₁_elim x.booked (all_rise-prop rows) (λ t. rows_rise ok dates precedes t.0 ticks first rows (c.rows-rows.ensures.rows t.0 t.1));
+      room = λ k l some. ∥∥₁_elim x.booked (hlevel props) (λ t.
           let are = c.rows-rows.ensures.rows t.0 t.1 in
           let e : k + 1 - 1 ≡ k = omega arith in
           let model = gets_model ok dates precedes t.0 ticks first rows are (k + 1) (omega arith) some in
@@ -56,38 +61,42 @@ pub invariant_of-self : goal.invariant_of-self
 invariant_of-self g c =
     let x = c.args.self.now in
     let lawful = lawful_over (g.met.C.Calendar.laws x.calendar.now) (g.met.O.Order.laws x.order.now) x.spaced in
-    let w = c.in_ok-workers in
+    let w = c.in_ok-group in
     let rows = rows_of c.rows-rows.result in
+    let fine = rw (← w.ensures.1.0) at w.ensures.0 in
     record {
-      groups = length-set x.presents (c.args.group - 1) c.in-Some.end ∙ x.groups;
-      flags = length-set x.mirrored (c.args.group - 1) _ ∙ x.flags;
+      groups = length-set x.presents (w.group.number - 1) c.in-Some.end ∙ x.groups;
+      flags = length-set x.mirrored (w.group.number - 1) _ ∙ x.flags;
       chained = x.chained;
       grouped = x.grouped;
       spaced = x.spaced;
-      told = ∥∥₁_map x.told (λ t. (
-        entered t.0 (sheet_of c.args.group (slice_index x.presents (c.args.group - 1)) c.in-Some.end w.workers.first rows),
-        (advanced x (g.C.Calendar.spacings x.calendar.now) lawful c.args.group c.in-Some.end w.workers.first w.workers.last (length c.args.sheet.now) (length c.args.scratch.now) rows c.serve.new.self.records c.settle.new.models.records
-            w.ensures.slot.0 w.ensures.slot.1 x.groups x.flags w.ensures.answers.0 w.ensures.answers.1 c.rows-rows.ensures.all c.serve.ensures c.coming-coming.result.dates c.coming-coming.ensures c.settle.ensures t.0 t.1 (c.in-Some.ensures.next t.0 t.1) (c.rows-rows.ensures.rows t.0 t.1)).1,
-      ));
+      booked = ∥∥₁_map x.booked (λ t.
+          let done = advanced x (g.C.Calendar.spacings x.calendar.now) lawful w.group w.ensures.1.1 c.in-Some.end (length c.args.sheet.now) (length c.args.scratch.now) rows c.serve.new.self.records c.settle.new.models.records fine c.rows-rows.ensures.all
+          c.serve.ensures c.coming-coming.result.dates c.coming-coming.ensures c.settle.ensures t.0 t.1 (c.in-Some.ensures.next t.0 t.1) (c.rows-rows.ensures.rows t.0 t.1) in
+          (entered t.0 (sheet x (g.C.Calendar.spacings x.calendar.now) lawful w.group w.ensures.1.1 c.in-Some.end (length c.args.sheet.now) (length c.args.scratch.now) rows c.serve.new.self.records c.settle.new.models.records fine c.rows-rows.ensures.all), done.1));
     }
 
 pub returns-clause-keeps : goal.returns-clause-keeps
 returns-clause-keeps g c =
     let x = c.args.self.now in
     let lawful = lawful_over (g.met.C.Calendar.laws x.calendar.now) (g.met.O.Order.laws x.order.now) x.spaced in
-    let w = c.in_ok-workers in
+    let w = c.in_ok-group in
     let rows = rows_of c.rows-rows.result in
-    record {
+    let fine = rw (← w.ensures.1.0) at w.ensures.0 in
+    let s : Sheet = record { group = w.group.number; start = slice_index x.presents (w.group.number - 1); end = c.in-Some.end; first = w.group.workers.first; rows = rows } in
+    rw (← w.ensures.1.0) (record {
       over = record { plan' = refl; calendar' = refl; order' = refl };
       goes = λ b tells.
-          let s = sheet_of c.args.group (slice_index x.presents (c.args.group - 1)) c.in-Some.end w.workers.first rows in
-          let done = advanced x (g.C.Calendar.spacings x.calendar.now) lawful c.args.group c.in-Some.end w.workers.first w.workers.last (length c.args.sheet.now) (length c.args.scratch.now) rows c.serve.new.self.records c.settle.new.models.records
-          w.ensures.slot.0 w.ensures.slot.1 x.groups x.flags w.ensures.answers.0 w.ensures.answers.1 c.rows-rows.ensures.all c.serve.ensures c.coming-coming.result.dates c.coming-coming.ensures c.settle.ensures b tells (c.in-Some.ensures.next b tells) (c.rows-rows.ensures.rows b tells) in
+          let done = advanced x (g.C.Calendar.spacings x.calendar.now) lawful w.group w.ensures.1.1 c.in-Some.end (length c.args.sheet.now) (length c.args.scratch.now) rows c.serve.new.self.records c.settle.new.models.records fine c.rows-rows.ensures.all
+          c.serve.ensures c.coming-coming.result.dates c.coming-coming.ensures c.settle.ensures b tells (c.in-Some.ensures.next b tells) (c.rows-rows.ensures.rows b tells) in
           record {
             answer = Advanced s;
             after = entered b s;
             step = done.0;
             gives' = record { agrees = ap (λ n. (s.start, s.end, s.first, n)) c.write-written.ensures.counts; leaves = record { in_words = c.write-written.ensures.writes; in_scratch = c.rows-rows.ensures.scratch } };
-            tells = done.1;
+            is = done.1;
           };
-    }
+    })
+
+pub rows-rows-requires-clause-room : goal.rows-rows-requires-clause-room
+rows-rows-requires-clause-room g c = (lent_enough c.args.self.now.plan.now c.args.group (length c.args.sheet.now) (length c.args.scratch.now) c.in_ok-group.ensures.0).1

@@ -1,5 +1,4 @@
-use Rattle.std.proofs.Common.{◌≡◌, ◌-◌, Bool, false, sym, ap, ◌∙◌, subst}
-use Rattle.std.specs.Prelude.{slice_index_or}
+use Rattle.std.proofs.Common.{◌≡◌, Bool, ◌∙◌, subst}
 use Rattle.queue.specs.Queues.{things_of}
 use Rattle.book.specs.Racks.{rack_of}
 use Rattle.roster.specs.Spans.{spans_of}
@@ -14,7 +13,6 @@ returns-clause-row g c = λ b tells.
     let p = c.args.worker in
     let rack = rack_of x.plan.now in
     let lawful = lawful_over (g.met.C.Calendar.laws x.calendar.now) (g.met.O.Order.laws x.order.now) x.spaced in
-    let flag : slice_index_or x.mirrored (c.args.group - 1) false ≡ b.mirrored (rack.group p) =
-    ap (λ k. slice_index_or x.mirrored (k - 1) false) (sym c.requires.group) ∙ tells.mirrored' (rack.group p) (worker_group x.plan.now p c.requires.worker.0 c.requires.worker.1) in
+    let flag : c.args.mirrored ≡ b.mirrored (rack.group p) = c.requires.mirrored ∙ tells.mirrored' (rack.group p) (worker_group x.plan.now p c.requires.worker.0 c.requires.worker.1) in
     let ends = subst (λ (m : Bool). EndsOf x.plan.now x.models.records m p c.args.ticks c.ends-ends.result) flag c.ends-ends.ensures in
     row_told b tells lawful p c.args.ticks c.requires.worker.0 c.requires.worker.1 c.ends-ends.result ends (things_of c.fill.new.queue) c.fill.ensures.holds (spans_of c.make.new.self) c.make.ensures.says

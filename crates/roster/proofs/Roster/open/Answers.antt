@@ -13,7 +13,7 @@ invariant_of-result g c =
       chained = c.of.ensures;
       grouped = c.grouping.ensures;
       spaced = spaced_is plan (g.C.Calendar.dates c.args.calendar.now) (g.C.Calendar.spacings c.args.calendar.now) c.in_ok-check.ensures.0;
-      told = merely (blank, opened_says plan (g.C.Calendar.dates c.args.calendar.now) (g.O.Order.precedes c.args.order.now) _ c.start.ensures);
+      booked = merely (blank, opened_says plan (g.C.Calendar.dates c.args.calendar.now) (g.O.Order.precedes c.args.order.now) _ c.start.ensures);
     }
 
 pub returns : goal.returns

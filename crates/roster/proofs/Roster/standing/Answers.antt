@@ -22,7 +22,7 @@ pub standing-requires-clause-begun : goal.standing-requires-clause-begun
 standing-requires-clause-begun g c =
     let x = c.args.self.now in
     let model = has_model x.plan.now c.args.model c.in-Some.ensures.0 in
-    rw (c.phase.ensures, c.present-present.ensures) (∥∥₁_elim x.told (hlevel props) (λ t. begun t.0 t.1 c.args.model model))
+    rw (c.phase.ensures, c.present-present.ensures) (∥∥₁_elim x.booked (hlevel props) (λ t. begun t.0 t.1 c.args.model model))
 
 pub standing-requires-clause-few : goal.standing-requires-clause-few
 standing-requires-clause-few g c =
@@ -30,7 +30,7 @@ standing-requires-clause-few g c =
     let model = has_model x.plan.now c.args.model c.in-Some.ensures.0 in
     let lawful = lawful_over (g.met.C.Calendar.laws x.calendar.now) (g.met.O.Order.laws x.order.now) x.spaced in
     let some : served_in (phase_at x.models.records (c.args.model - 1)) ≤ c.present-present.result * x.plan.now.set.sizes.grain =
-    rw (c.present-present.ensures) (∥∥₁_elim x.told (hlevel props) (λ t. few t.0 t.1 c.args.model model (g.C.Calendar.spacings x.calendar.now) lawful)) in
+    rw (c.present-present.ensures) (∥∥₁_elim x.booked (hlevel props) (λ t. few t.0 t.1 c.args.model model (g.C.Calendar.spacings x.calendar.now) lawful)) in
     rw (c.phase.ensures) (omega (arith, some, mul-le c.present-present.result x.plan.now.set.sizes.grain (2 ^ 32) 100800 (omega (arith, c.present-present.type_inv)) x.plan.now.set.sizes.small_grain))
 
 pub returns : goal.returns

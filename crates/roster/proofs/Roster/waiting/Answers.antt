@@ -16,6 +16,6 @@ overflow_add-result g c =
     let is = c.in_ok-slot.ensures in
     let model = has_model x.plan.now c.args.model is.0 in
     let date : c.in-Live.date ≡ date_in (phase_at x.models.records (c.args.model - 1)) = ap date_in (sym c.in-Live.is ∙ c.phase.ensures) ∙ ap (λ k. date_in (phase_at x.models.records k)) is.1 in
-    let soon : date_in (phase_at x.models.records (c.args.model - 1)) < 2 ^ 30 = ∥∥₁_elim x.told (hlevel props) (λ t. early t.0 t.1 lawful c.args.model model) in
+    let soon : date_in (phase_at x.models.records (c.args.model - 1)) < 2 ^ 30 = ∥∥₁_elim x.booked (hlevel props) (λ t. early t.0 t.1 lawful c.args.model model) in
     let short : period_of x.plan.now.set c.in_ok-slot.slot ≤ 100800 = subst (λ k. period_of x.plan.now.set k ≤ 100800) (sym is.1) ((rack_of-IsRack x.plan.now).fine c.args.model is.0.first is.0.last).small_period in
     omega (arith, date, soon, short)

@@ -4,7 +4,7 @@ use Rattle.refusal.specs.Refusals.{told}
 use Rattle.book.specs.Racks.{rack_of}
 use Rattle.book.specs.Books.{without}
 use Rattle.book.specs.Calls.{Withdrew, withdraws}
-use Rattle.roster.specs.Records.{phase_at, altered}
+use Rattle.roster.specs.Records.{met, phase_at, altered}
 use Rattle.roster.specs.declared.event.Event.TheVariants.{Withdrawal}
 use Rattle.roster.proofs.Withdrawing.{has_model, no_model, about_none, about_gone, about_kept, phase_gone, phase_kept, withdrawn_says, refused}
 use Rattle.roster.proofs.Roster.withdraw.Goals as goal
@@ -28,14 +28,14 @@ invariant_of-self g c =
     let dates = g.C.Calendar.dates x.calendar.now in
     let some = c.in-Some.ensures in
     let model = has_model x.plan.now c.args.model some.0 in
-    let is = c.meet.ensures ∙ ap (λ k. altered x.models.records k Withdrawal) some.1 in
+    let is = c.meet.ensures ∙ ap (λ k. altered x.models.records k (λ p. met p Withdrawal)) some.1 in
     record {
       groups = x.groups;
       flags = x.flags;
       chained = x.chained;
       grouped = x.grouped;
       spaced = x.spaced;
-      told = ∥∥₁_map x.told (λ t.
+      booked = ∥∥₁_map x.booked (λ t.
           let b = t.0 in
           let kept = phase_kept (rack_of x.plan.now) dates b _ (λ gone. c.in_default-phase.not-Withdrawn (c.phase.ensures ∙ ap (phase_at x.models.records) some.1 ∙ t.1.phases _ model ∙ gone)) in
           (without b c.args.model, withdrawn_says x.models.records _ b _ t.1 x.models.full model (about_kept (rack_of x.plan.now) dates b _ model kept) is));
@@ -47,14 +47,14 @@ returns g c =
     let dates = g.C.Calendar.dates x.calendar.now in
     let some = c.in-Some.ensures in
     let model = has_model x.plan.now c.args.model some.0 in
-    let is = c.meet.ensures ∙ ap (λ k. altered x.models.records k Withdrawal) some.1 in
+    let is = c.meet.ensures ∙ ap (λ k. altered x.models.records k (λ p. met p Withdrawal)) some.1 in
     record {
       keeps = record {
         over = record { plan' = refl; calendar' = refl; order' = refl };
         goes = λ b tells.
             let kept = phase_kept (rack_of x.plan.now) dates b _ (λ gone. c.in_default-phase.not-Withdrawn (c.phase.ensures ∙ ap (phase_at x.models.records) some.1 ∙ tells.phases _ model ∙ gone)) in
             let fine = about_kept (rack_of x.plan.now) dates b _ model kept in
-            record { answer = Withdrew; after = without b c.args.model; step = withdraws c.args.model fine; gives' = refl; tells = withdrawn_says x.models.records _ b _ tells x.models.full model fine is };
+            record { answer = Withdrew; after = without b c.args.model; step = withdraws c.args.model fine; gives' = refl; is = withdrawn_says x.models.records _ b _ tells x.models.full model fine is };
       };
       unchanged = tt;
     }

@@ -2,4 +2,4 @@ use Rattle.roster.proofs.Asking.{AskedFirst}
 use Rattle.roster.proofs.coming.Coming.ask.Given as goal
 
 abbrev pub invariant-loop-slot : goal.invariant-loop-slot
-invariant-loop-slot g l = AskedFirst l.plan (g.C.Calendar.dates l.calendar) l.models.records l.group l.from l.slot l.dates
+invariant-loop-slot g l = AskedFirst l.group.plan.now (g.C.Calendar.dates l.calendar) l.models.records l.group.number l.from l.slot l.dates

@@ -3,4 +3,4 @@ use Rattle.roster.specs.Coming.{next_of}
 use Rattle.roster.proofs.coming.Coming.next.Given as goal
 
 abbrev pub invariant-loop-slot : goal.invariant-loop-slot
-invariant-loop-slot l = l.next ≡ next_of l.plan l.models.records l.self.dates l.group l.slot
+invariant-loop-slot l = l.next ≡ next_of l.group.plan.now l.models.records l.self.dates l.group.number l.slot
