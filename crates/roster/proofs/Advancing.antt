@@ -28,7 +28,6 @@ use Rattle.roster.specs.declared.phase.Phase.TheVariants.{Waiting, Live, Withdra
 use Rattle.roster.specs.declared.event.Event.TheVariants.{Date, Service}
 use Rattle.roster.specs.declared.record.Record.{Record}
 use Rattle.roster.specs.Records.{met, phase_at}
-use Rattle.roster.specs.Turning.{turned}
 use Rattle.roster.specs.Telling.{phase_of, IsBook}
 use Rattle.roster.specs.Keeping.{IsBookOf, StepOf, Keeps, Advances}
 use Rattle.roster.specs.Advancing.{Served, rows_give, Settled, settled}
@@ -41,7 +40,7 @@ use Rattle.roster.proofs.Withdrawing.{gone_phase, refused}
 use Rattle.roster.proofs.Due.{settled_told}
 use Rattle.roster.proofs.Parts.{rows_tile, parts_of_rows}
 use Rattle.roster.proofs.Serving.{not_served}
-use Rattle.roster.proofs.Turning.{turned_here, turned_elsewhere, gone_here}
+use Rattle.roster.proofs.Turning.{turned, turned_here, turned_elsewhere, gone_here}
 
 over_true : (over : Bool) (d x t : ℕ) → (met (if over then Waiting else Live d x) (Date t)) ≡ (if over then Live t 0 else Live d x)
 over_true true d x t = refl

@@ -6,6 +6,7 @@ use Rattle.std.proofs.lemmas.Bool.{cases_lt, cases_eq, cases_Bool, both_ways, an
 use Rattle.kinds.specs.declared.runs.Run.{Run}
 use Rattle.dates.specs.Dates.{Earliest}
 use Rattle.plan.specs.declared.plans.Plan.{Plan}
+use Rattle.book.specs.Sums.{some_of}
 use Rattle.book.specs.Racks.{Rack, rack_of}
 use Rattle.book.specs.Sheets.{Sheet}
 use Rattle.book.specs.Books.{Book, entered, is_model_of, group_with, is_live, date_of, served, is_moment}
@@ -21,10 +22,22 @@ use Rattle.roster.specs.declared.record.Record.{Record}
 use Rattle.roster.specs.Records.{phase_at}
 use Rattle.roster.specs.Telling.{IsBook}
 use Rattle.roster.specs.Advancing.{Soonest, settled, Settled}
-use Rattle.roster.specs.Coming.{deadline_in, moment_of, is_due, coming_at, dates_in, due_by, Comes, next_by}
+use Rattle.roster.specs.Coming.{deadline_in, moment_of, coming_at, dates_in, Comes, next_by}
 use Rattle.roster.proofs.Soonest.{soonest_same, soonest_at, soonest_or, soonest_if, earliest_soonest, some_of_alike, is_known}
 use Rattle.roster.proofs.Turning.{pick}
 use Rattle.roster.proofs.Withdrawing.{gone_phase, phase_gone}
+
+-- at tick t a model in a phase has a date, or its run ends
+abbrev pub is_due : ℕ → Bool → ℕ → Phase → Bool
+is_due period dated t Waiting = dated
+is_due period dated t (Live date served) = dated || date + period == t
+is_due period dated t Withdrawn = false
+
+-- by these records, something is due for group g at tick t
+abbrev pub due_by : Plan → (ℕ → ℕ → Bool) → List Record → ℕ → ℕ → Bool
+due_by plan dates records g t =
+    let rack = rack_of plan in
+    some_of rack.models (λ i. (group_with rack i == g) && is_due (rack.period i) (dates i t) t (phase_at records (i - 1)))
 
 -- a run in this phase ends at a tick from this one on
 abbrev pub EndsFrom : ℕ → ℕ → Phase → Type 0

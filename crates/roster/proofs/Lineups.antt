@@ -11,10 +11,7 @@ use Rattle.std.proofs.lemmas.List.Sorted.{IsPermutation-refl, IsPermutation-sym,
 use Rattle.order.specs.Laws.{OrderLaws}
 use Rattle.kinds.specs.declared.runs.Run.{Run}
 use Rattle.queue.specs.Heaps.{Unpreceded}
-use Rattle.book.specs.Sheets.{Row, Says}
-use Rattle.roster.specs.Spans.{given}
 use Rattle.roster.specs.Turns.{left_of, all_left, of_model, before, AreTurns}
-use Rattle.roster.proofs.Spans.{says_given}
 
 yes : (b : Bool) (n : ℕ) → b ≡ true → (if b then n else 0) ≡ n
 yes b n e = rw e refl

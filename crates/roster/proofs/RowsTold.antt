@@ -28,7 +28,11 @@ use Rattle.roster.specs.declared.phase.Phase.TheVariants.{Waiting, Live, Withdra
 use Rattle.roster.specs.declared.record.Record.{Record}
 use Rattle.roster.specs.Records.{phase_at, date_in, served_in}
 use Rattle.roster.specs.Telling.{IsBook}
-use Rattle.roster.specs.Filling.{is_live_in, has_run, waits_on, run_in, Early, EndsOf}
+use Rattle.roster.specs.Filling.{is_live_in, has_run, waits_on, run_in, EndsOf}
+
+-- no date is so late that a deadline would not fit its field
+abbrev Early : Plan → List Record → Type 0
+Early plan records = (i : ℕ) → IsTrue (is_model_of (rack_of plan) i) → date_in (phase_at records (i - 1)) < 2 ^ 30
 
 not_true : (gone : Bool) → IsTrue (not gone) → gone ≡ false
 not_true true h = absurd (cc)

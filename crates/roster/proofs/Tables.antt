@@ -5,7 +5,7 @@ use Rattle.std.proofs.Math.Seq.{take-length, take-append-add}
 use borrow.Rule.Slice.PartMut.{put_mid}
 use Rattle.std.proofs.lemmas.List.{take-append-le, drop-append-le, take_more_set, length-take, length-take-le, length-drop, length-map, map-append}
 use Rattle.std.proofs.lemmas.List.Sums.{sum_by-cons}
-use Rattle.book.specs.Sheets.{Span as Told, Row}
+use Rattle.book.specs.Sheets.{Span as Told}
 use Rattle.book.proofs.Rows.{spans_in}
 use Rattle.roster.specs.declared.sheet.span.Span.{Span}
 use Rattle.roster.specs.declared.sheet.rows.Rows.{Rows}

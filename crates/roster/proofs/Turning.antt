@@ -1,6 +1,6 @@
 -- What an interval makes of a model's phase, by the book.
 use Rattle.std.proofs.Common.{◌≡◌, ◌≢◌, ℕ, ◌+◌, ◌-◌, ◌*◌, ◌≤◌, Bool, true, false, not, refl, ap, sym, ◌∙◌, subst, mul-le-mul_right, arith}
-use Rattle.std.specs.Prelude.{if◌then◌else◌}
+use Rattle.std.specs.Prelude.{if◌then◌else◌, ◌==◌}
 use Rattle.std.specs.Bool.{IsTrue, IsFalse}
 use Rattle.std.proofs.lemmas.Bool.{both_ways, eq-eqb, ne_eqb, and_from, false_from_ne_true}
 use Rattle.kinds.specs.declared.runs.Run.{Run}
@@ -18,7 +18,12 @@ use Rattle.book.proofs.Sound.{Sound, got_empty}
 use Rattle.roster.specs.declared.phase.Phase.{Phase}
 use Rattle.roster.specs.declared.phase.Phase.TheVariants.{Waiting, Live, Withdrawn}
 use Rattle.roster.specs.Telling.{phase_of}
-use Rattle.roster.specs.Turning.{turned}
+
+-- at tick t, where a date may be: a run that ends there ends first, and then one may begin; a run that goes on got so many parts
+abbrev pub turned : (period : ℕ) → (dated : Bool) → (t parts : ℕ) → Phase → Phase
+turned period dated t parts Waiting = if dated then Live t 0 else Waiting
+turned period dated t parts (Live date served) = if date + period == t then (if dated then Live t 0 else Waiting) else Live date (served + parts)
+turned period dated t parts Withdrawn = Withdrawn
 
 -- the phase of a model that is withdrawn, or has a run
 abbrev pub pick : Bool → Bool → ℕ → ℕ → Phase

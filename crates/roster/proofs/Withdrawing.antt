@@ -1,5 +1,5 @@
 -- What a withdrawal makes of a roster that tells a book.
-use Rattle.std.proofs.Common.{◌≡◌, ℕ, ◌-◌, ◌≢◌, Bool, true, false, List, [], ◌∷◌, ◌++◌, length, inl, inr, refl, ap, sym, ◌∙◌, arith, None, Some, get_or-set_same, get_or-set_other}
+use Rattle.std.proofs.Common.{◌≡◌, ℕ, ◌-◌, ◌≢◌, Bool, true, false, List, length, inl, inr, refl, ap, sym, ◌∙◌, arith, None, Some, get_or-set_same, get_or-set_other}
 use Rattle.std.specs.Prelude.{if◌then◌else◌}
 use Rattle.std.specs.Bool.{IsTrue, IsFalse, ◌==◌}
 use Rattle.std.proofs.lemmas.Bool.{cases_eq, eq-eqb, ne_eqb, le-leb, false_from_ne_true, and_from, cond-true, cond-false}
@@ -10,9 +10,8 @@ use Rattle.kinds.specs.declared.runs.Run.{Run}
 use Rattle.set.specs.Sets.{HasModel}
 use Rattle.plan.specs.declared.plans.Plan.{Plan}
 use Rattle.book.specs.Racks.{Rack, rack_of}
-use Rattle.book.specs.Books.{Book, blank, without, is_model_of}
-use Rattle.book.specs.Calls.{Call, Withdraw, Answer, Withdrew, Refused, Step, Leads, ends, goes, withdraws, declines, about}
-use Rattle.book.specs.Laws.{Reached}
+use Rattle.book.specs.Books.{Book, without, is_model_of}
+use Rattle.book.specs.Calls.{Call, Withdraw, Answer, Refused, withdraws, declines, about}
 use Rattle.book.proofs.Racks.{within_both}
 use Rattle.book.proofs.Keeps.{reached_more}
 use Rattle.roster.specs.declared.phase.Phase.{Phase}

@@ -1,5 +1,5 @@
 -- What the parts of an advance promise each other; no public contract speaks of it.
-use Rattle.std.specs.Prelude.{◌≡◌, ◌≢◌, ℕ, ◌+◌, ◌-◌, ◌^◌, Bool, false, ◌<◌, ◌≤◌, if◌then◌else◌, List, [], ◌∷◌, map, take, drop, IsTrue, MatchOption, ◌==◌, Option}
+use Rattle.std.specs.Prelude.{◌≡◌, ◌≢◌, ℕ, ◌+◌, ◌-◌, ◌^◌, Bool, false, ◌<◌, ◌≤◌, if◌then◌else◌, List, [], ◌∷◌, IsTrue, MatchOption, ◌==◌, Option}
 use Rattle.dates.specs.Dates.{Earliest, NoneFrom}
 use Rattle.plan.specs.declared.plans.Plan.{Plan}
 use Rattle.book.specs.Racks.{rack_of}

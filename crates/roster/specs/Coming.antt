@@ -1,7 +1,6 @@
--- When something is due for a group.
-use Rattle.std.specs.Prelude.{◌≡◌, ◌≢◌, ℕ, zero, suc, ◌+◌, ◌-◌, ◌<◌, ◌^◌, Bool, false, ◌||◌, ◌&&◌, if◌then◌else◌, List, IsTrue, None, Some, Option, min, ◌==◌, slice_index_or}
+-- When something is due for a group; no public contract speaks of it.
+use Rattle.std.specs.Prelude.{◌≡◌, ◌≢◌, ℕ, zero, suc, ◌+◌, ◌-◌, ◌<◌, ◌^◌, Bool, false, if◌then◌else◌, List, IsTrue, None, Some, Option, min, ◌==◌, slice_index_or}
 use Rattle.plan.specs.declared.plans.Plan.{Plan}
-use Rattle.book.specs.Sums.{some_of}
 use Rattle.book.specs.Racks.{Rack, rack_of}
 use Rattle.book.specs.Books.{is_model_of, group_with}
 use Rattle.roster.specs.declared.phase.Phase.{Phase}
@@ -33,12 +32,6 @@ moment_of period Waiting coming = coming
 moment_of period (Live date served) coming = earlier coming (Some (date + period))
 moment_of period Withdrawn coming = None
 
--- at tick t a model in a phase has a date, or its run ends
-abbrev pub is_due : ℕ → Bool → ℕ → Phase → Bool
-is_due period dated t Waiting = dated
-is_due period dated t (Live date served) = dated || date + period == t
-is_due period dated t Withdrawn = false
-
 -- the earliest date to come of the model in a slot, by a table of them
 abbrev pub coming_at : List (Option ℕ) → ℕ → Option ℕ
 coming_at table k = slice_index_or table k None
@@ -55,10 +48,6 @@ dates_in table i t = is_at t (coming_at table (i - 1))
 module _ (plan : Plan) where
   abbrev rack : Rack
   rack = rack_of plan
-
-  -- by these records, something is due for group g at tick t
-  abbrev pub due_by : (ℕ → ℕ → Bool) → List Record → ℕ → ℕ → Bool
-  due_by dates records g t = some_of rack.models (λ i. (group_with rack i == g) && is_due (rack.period i) (dates i t) t (phase_at records (i - 1)))
 
   -- the table has the earliest dates from a tick on, of the models of group g that are not withdrawn
   abbrev pub Comes : (ℕ → ℕ → Bool) → List Record → ℕ → ℕ → List (Option ℕ) → Type 0

@@ -1,4 +1,4 @@
--- Who has a worker, from one end of its row to the other.
+-- Who has a worker, from one end of its row to the other; no public contract speaks of it.
 use Rattle.std.specs.Prelude.{◌≡◌, ℕ, ◌+◌, ◌-◌, ◌*◌, ◌<◌, ◌≤◌, Bool, List, IsTrue, IsFalse, ◌==◌}
 use Rattle.kinds.specs.declared.runs.Run.{Run}
 use Rattle.book.specs.Sums.{up_to}

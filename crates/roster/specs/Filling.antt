@@ -1,5 +1,5 @@
--- What the records say of the runs of a worker.
-use Rattle.std.specs.Prelude.{◌≡◌, ℕ, ◌+◌, ◌-◌, ◌<◌, ◌^◌, Bool, true, false, ◌&&◌, List, Option, MatchOption, IsTrue, IsFalse}
+-- What the records say of the runs of a worker; no public contract speaks of it.
+use Rattle.std.specs.Prelude.{◌≡◌, ℕ, ◌+◌, ◌-◌, Bool, true, false, ◌&&◌, List, Option, MatchOption, IsTrue, IsFalse}
 use Rattle.kinds.specs.declared.runs.Run.{Run}
 use Rattle.plan.specs.declared.plans.Plan.{Plan}
 use Rattle.roster.specs.declared.sheet.ends.Ends.{Ends}
@@ -51,10 +51,6 @@ module _ (plan : Plan) (records : List Record) where
   -- m is the live model that has a first piece on worker p, or a second piece, or 0 if there is none
   abbrev pub StandsAt : Bool → ℕ → ℕ → Type 0
   StandsAt second p m = IsAtEnd has_run (λ i. head_of second p ((rack_of plan).pieces i)) m
-
-  -- no date is so late that a deadline would not fit its field
-  abbrev pub Early : Type 0
-  Early = (i : ℕ) → IsTrue (is_model_of (rack_of plan) i) → date_in (phase_at records (i - 1)) < 2 ^ 30
 
   -- the ends of worker p in an interval of D ticks
   abbrev pub EndsOf : Bool → ℕ → ℕ → Ends → Type 0

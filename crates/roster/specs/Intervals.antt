@@ -1,4 +1,4 @@
--- What the parts of an advance say of whatever book a roster tells; no public contract speaks of it.
+-- What the parts of an advance say of whatever book is a roster's; no public contract speaks of it.
 use Rattle.std.specs.Prelude.{◌≡◌, ℕ, ◌+◌, ◌-◌, ◌≤◌, List, Option, slice_index}
 use Rattle.kinds.specs.declared.runs.Run.{Run}
 use Rattle.calendar.specs.declared.Calendar.{Ghosts as CalendarMeaning}

@@ -1,4 +1,4 @@
--- What each call keeps between a roster and the books that it tells.
+-- What each call keeps between a roster and its books.
 use Rattle.std.specs.Prelude.{◌≡◌, ℕ, List, length, Ok, Err, Result}
 use Rattle.kinds.specs.declared.runs.Run.{Run}
 use Rattle.calendar.specs.declared.Calendar.{Ghosts as CalendarMeaning}

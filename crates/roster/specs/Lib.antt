@@ -10,6 +10,5 @@ pub mod Seating
 pub mod Spans
 pub mod Tables
 pub mod Telling
-pub mod Turning
 pub mod Turns
 pub mod Waiting

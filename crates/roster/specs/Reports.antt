@@ -1,4 +1,4 @@
--- What is reported of a model that is in a phase.
+-- What is reported of a model that is in a phase; no public contract speaks of it.
 use Rattle.std.specs.Prelude.{ℕ, ◌-◌, ◌*◌, pos, ◌-ℤ◌}
 use Rattle.standing.specs.declared.Phase.TheVariants as answer
 use Rattle.standing.specs.Standings.{Report, phase_number}

@@ -1,4 +1,4 @@
--- The row so far.
+-- The row so far; no public contract speaks of it.
 use Rattle.std.specs.Prelude.{ℕ, if◌then◌else◌, [], ◌∷◌, map, take, ◌==◌}
 use Rattle.book.specs.Sheets.{Span as Told, Row as TheRow}
 use Rattle.roster.specs.declared.sheet.row.Row.{Row}
@@ -7,8 +7,8 @@ use Rattle.roster.specs.declared.sheet.span.Span.{Span}
 abbrev pub told_by : Span → Told
 told_by span = record { end = span.end; model = span.model }
 
-abbrev pub count_of : Row → ℕ
-count_of row = row.count
+abbrev pub span_count : Row → ℕ
+span_count row = row.count
 
 -- the spans, as the book has them
 abbrev pub spans_of : Row → TheRow

@@ -1,4 +1,4 @@
--- The rows that a table holds, and their words.
+-- The rows that a table holds, and their words; no public contract speaks of it.
 use Rattle.std.specs.Prelude.{ℕ, List, [], ◌∷◌, map, take, drop}
 use Rattle.book.specs.Sheets.{Row, words_of}
 use Rattle.roster.specs.declared.sheet.span.Span.{Span}

@@ -1,4 +1,4 @@
--- Which book a roster tells.
+-- Which books are a roster's.
 use Rattle.std.specs.Prelude.{◌≡◌, ℕ, ◌-◌, Bool, false, if◌then◌else◌, List, IsTrue, slice_index, slice_index_or}
 use Rattle.kinds.specs.declared.runs.Run.{Run}
 use Rattle.plan.specs.declared.plans.Plan.{Plan}

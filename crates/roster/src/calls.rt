@@ -41,12 +41,8 @@ impl<'a, C: Calendar, O: Order<Item = Run>> Roster<'a, C, O> {
         let Some(weight) = self.plan.set.weight(model) else {
             return Err(Fault::Model.at(Layer::Running, model as u64));
         };
-        let present = self.present(model);
-        Ok(
-            self.models
-                .phase(model as usize - 1)
-                .standing(weight, present),
-        )
+        let phase = self.models.phase(model as usize - 1);
+        Ok(phase.standing(weight, self.present(model)))
     }
 
     /// The present of a model is that of its group.

@@ -1,5 +1,5 @@
 -- What each call on a roster answers, as an answer of a list.
-use Rattle.std.proofs.Common.{◌≡◌, ℕ, List, sym, subst, refl, Err}
+use Rattle.std.proofs.Common.{◌≡◌, ℕ, List, sym, subst, refl}
 use Rattle.refusal.specs.Refusals.{told}
 use Rattle.refusal.specs.declared.Refusal.{Refusal}
 use Rattle.kinds.specs.declared.runs.Run.{Run}
@@ -11,7 +11,6 @@ use Rattle.standing.specs.declared.Standing.{Standing}
 use Rattle.book.specs.Calls.{Call, Answer as Given, Advanced, Withdrew, Stands, Refused}
 use Rattle.roster.specs.declared.Roster.{Roster}
 use Rattle.roster.specs.Keeping.{Keeps, AreNumbers}
-use Rattle.season.specs.declared.answer.Answer.{Answer}
 use Rattle.season.specs.declared.answer.Answer.TheVariants as answer
 use Rattle.season.specs.Asking.{IsAnswer, Gives, advanced, withdrew, stands, refused}
 

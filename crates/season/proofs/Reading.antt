@@ -14,7 +14,7 @@ use Rattle.season.specs.declared.call.Call.TheVariants as call
 use Rattle.season.specs.declared.answer.Answer.{Answer}
 use Rattle.season.specs.declared.answer.Answer.TheVariants as answer
 use Rattle.season.specs.declared.entry.Entry.{Entry}
-use Rattle.season.specs.Asking.{asked, IsAnswer, advanced, withdrew, stands as says_stands, refused}
+use Rattle.season.specs.Asking.{asked, IsAnswer, advanced, refused}
 use Rattle.season.specs.Reading.{row_from, rows_from, rows_in, sheet_in, sheets_in}
 use Rattle.season.specs.Performing.{asked_by, Holds, Hold, hold_none, hold_more}
 

@@ -1,5 +1,5 @@
 -- What entries come to, from the laws of all lists of calls.
-use Rattle.std.proofs.Common.{◌≡◌, ℕ, ◌+◌, ◌-◌, ◌*◌, ◌≤◌, Bool, List, length, map, drop, refl, sym, ap, ◌∙◌, subst, arith, Some, slice_get}
+use Rattle.std.proofs.Common.{◌≡◌, ℕ, ◌+◌, ◌-◌, ◌*◌, ◌≤◌, Bool, List, map, drop, refl, sym, ap, ◌∙◌, subst, arith, Some, slice_get}
 use Rattle.kinds.specs.declared.runs.Run.{Run}
 use Rattle.plan.specs.declared.plans.Plan.{Plan}
 use Rattle.book.specs.Racks.{Rack, rack_of}
@@ -12,7 +12,7 @@ use Rattle.book.proofs.Kept.{fair_shares, one_worker, whole_runs}
 use Rattle.book.proofs.Only.{none_withdrawn}
 use Rattle.season.specs.declared.entry.Entry.{Entry}
 use Rattle.season.specs.Reading.{sheets_in}
-use Rattle.season.specs.Serving.{InUse, HoldsSheet, Withdraws, Serves}
+use Rattle.season.specs.Serving.{InUse, Serves}
 use Rattle.season.specs.Performing.{asked_by, Hold}
 use Rattle.season.proofs.Reading.{held_all}
 use Rattle.season.proofs.Cutting.{Cut, cut, Next, next, next_adds, next_out, slice_get-drop}

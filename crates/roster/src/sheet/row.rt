@@ -25,13 +25,13 @@ impl Row {
     ghost use Rattle.std.specs.Prelude.{◌+◌, ◌<◌, ℕ, Bool, [], ◌==◌, map};
     ghost use Rattle.book.specs.Sheets.{Says};
     ghost use Rattle.queue.specs.Queues.{count_of, things_of, Ordered, Stays};
-    ghost use Rattle.roster.specs.Spans.{spans_of, told_by, count_of as spans_in, given};
+    ghost use Rattle.roster.specs.Spans.{spans_of, told_by, span_count, given};
     ghost use Rattle.roster.specs.Dividing.{Divides};
 
     /// A row without spans.
     pub(crate) fn new() -> Row
         ensures none { spans_of result ≡ [] }
-        ensures empty { spans_in result ≡ 0 }
+        ensures empty { span_count result ≡ 0 }
     {
         Row {
             spans: [Span { end: 0, model: 0 }; ROW_SPANS],
@@ -69,7 +69,7 @@ impl Row {
     /// The spans are gone.
     fn clear(&mut self)
         ensures none { spans_of self.new ≡ [] }
-        ensures empty { spans_in self.new ≡ 0 }
+        ensures empty { span_count self.new ≡ 0 }
     {
         self.count = 0;
     }
@@ -77,9 +77,9 @@ impl Row {
     /// The worker is with a model from the part where the row ends up to a later one, or the same.
     fn reach(&mut self, at: u64, to: u64, model: u32)
         requires forward { at ≤ to }
-        requires room { spans_in self.old < 67 }
+        requires room { span_count self.old < 67 }
         ensures says { (has : ℕ → ℕ → Bool) → ((i x : ℕ) → 1 ≤ i → at ≤ x → x < to → (model == i) ≡ has i x) → Says at has (spans_of self.old) → Says to has (spans_of self.new) }
-        ensures few { spans_in self.new ≤ spans_in self.old + 1 }
+        ensures few { span_count self.new ≤ span_count self.old + 1 }
     {
         if at < to {
             self.give(to, model);
@@ -88,9 +88,9 @@ impl Row {
 
     /// The worker is with a model up to a part behind those that are given. Neighbouring spans of one model are joined.
     fn give(&mut self, end: u64, model: u32)
-        requires { spans_in self.old < 67 }
+        requires { span_count self.old < 67 }
         ensures gives { spans_of self.new ≡ given (spans_of self.old) end model }
-        ensures few { spans_in self.new ≤ spans_in self.old + 1 }
+        ensures few { span_count self.new ≤ span_count self.old + 1 }
     {
         let count = self.count;
         if count > 0 && self.spans[count - 1].model == model {

@@ -1,4 +1,4 @@
-use Rattle.std.proofs.Common.{◌≡◌, ℕ, ◌-◌, ◌+◌, ◌*◌, ◌^◌, ◌≤◌, None, ap, sym, ◌∙◌, refl, subst, length, arith}
+use Rattle.std.proofs.Common.{◌≡◌, ◌-◌, ◌+◌, ◌*◌, ◌^◌, ◌≤◌, ap, ◌∙◌, refl, subst, length, arith}
 use mathlib.Core.Logic.{∥∥₁_elim, ∥∥₁_map}
 use Rattle.std.proofs.Props.{props}
 use Rattle.std.proofs.lemmas.Result.{err_from_is_err_and}
@@ -6,17 +6,12 @@ use Rattle.std.proofs.lemmas.Nat.{mul-le}
 use Rattle.std.proofs.lemmas.List.{length-set}
 use Rattle.std.specs.Prelude.{slice_index}
 use Rattle.refusal.specs.Refusals.{told}
-use Rattle.plan.specs.declared.plans.Plan.{Plan}
-use Rattle.book.specs.Racks.{rack_of}
 use Rattle.book.specs.Sheets.{Sheet}
 use Rattle.book.specs.Books.{entered}
 use Rattle.book.specs.Calls.{Advanced}
 use Rattle.book.proofs.Racks.{rack_of-IsRack}
 use Rattle.roster.specs.Records.{phase_at, served_in}
 use Rattle.roster.specs.Tables.{rows_of}
-use Rattle.roster.specs.Advancing.{Settled}
-use Rattle.roster.specs.Coming.{dates_in}
-use Rattle.roster.specs.Keeping.{Keeps, Advances, advance_of}
 use Rattle.roster.proofs.Reports.{lawful_over, small}
 use Rattle.roster.proofs.Checking.{lent_enough}
 use Rattle.roster.proofs.Parts.{rows_rise, all_rise-prop, gets_few, gets_model}

@@ -22,19 +22,19 @@ pub standing-requires-clause-begun : goal.standing-requires-clause-begun
 standing-requires-clause-begun g c =
     let x = c.args.self.now in
     let model = has_model x.plan.now c.args.model c.in-Some.ensures.0 in
-    rw (c.phase.ensures, c.present-present.ensures) (∥∥₁_elim x.booked (hlevel props) (λ t. begun t.0 t.1 c.args.model model))
+    rw (c.phase-phase.ensures, c.present.ensures) (∥∥₁_elim x.booked (hlevel props) (λ t. begun t.0 t.1 c.args.model model))
 
 pub standing-requires-clause-few : goal.standing-requires-clause-few
 standing-requires-clause-few g c =
     let x = c.args.self.now in
     let model = has_model x.plan.now c.args.model c.in-Some.ensures.0 in
     let lawful = lawful_over (g.met.C.Calendar.laws x.calendar.now) (g.met.O.Order.laws x.order.now) x.spaced in
-    let some : served_in (phase_at x.models.records (c.args.model - 1)) ≤ c.present-present.result * x.plan.now.set.sizes.grain =
-    rw (c.present-present.ensures) (∥∥₁_elim x.booked (hlevel props) (λ t. few t.0 t.1 c.args.model model (g.C.Calendar.spacings x.calendar.now) lawful)) in
-    rw (c.phase.ensures) (omega (arith, some, mul-le c.present-present.result x.plan.now.set.sizes.grain (2 ^ 32) 100800 (omega (arith, c.present-present.type_inv)) x.plan.now.set.sizes.small_grain))
+    let some : served_in (phase_at x.models.records (c.args.model - 1)) ≤ c.present.result * x.plan.now.set.sizes.grain =
+    rw (c.present.ensures) (∥∥₁_elim x.booked (hlevel props) (λ t. few t.0 t.1 c.args.model model (g.C.Calendar.spacings x.calendar.now) lawful)) in
+    rw (c.phase-phase.ensures) (omega (arith, some, mul-le c.present.result x.plan.now.set.sizes.grain (2 ^ 32) 100800 (omega (arith, c.present.type_inv)) x.plan.now.set.sizes.small_grain))
 
 pub returns : goal.returns
 returns g c =
     let x = c.args.self.now in
     let model = has_model x.plan.now c.args.model c.in-Some.ensures.0 in
-    stood x c.args.model c.standing.result (λ b tells. (about_fine b tells c.args.model model, c.standing.ensures ∙ ap (λ p. report_of p c.in-Some.weight c.present-present.result) c.phase.ensures ∙ ap (λ t. report_of (phase_at x.models.records (c.args.model - 1)) c.in-Some.weight t) c.present-present.ensures ∙ shown b tells c.args.model model c.in-Some.weight c.in-Some.ensures.1.is))
+    stood x c.args.model c.standing.result (λ b tells. (about_fine b tells c.args.model model, c.standing.ensures ∙ ap (λ p. report_of p c.in-Some.weight c.present.result) c.phase-phase.ensures ∙ ap (λ t. report_of (phase_at x.models.records (c.args.model - 1)) c.in-Some.weight t) c.present.ensures ∙ shown b tells c.args.model model c.in-Some.weight c.in-Some.ensures.1.is))

@@ -2,7 +2,7 @@
 ghost use Rattle.std.specs.Prelude.{◌≡◌, ◌+◌, ◌≤◌, ℕ, Bool, min};
 ghost use Rattle.book.specs.Sheets.{Says};
 ghost use Rattle.queue.specs.Queues.{count_of, things_of, Ordered, Stays};
-ghost use Rattle.roster.specs.Spans.{spans_of, count_of as spans_in};
+ghost use Rattle.roster.specs.Spans.{spans_of, span_count};
 ghost use Rattle.roster.specs.Turns.{AreTurns, all_left};
 
 use super::Row;
@@ -20,11 +20,11 @@ impl Row {
         closes: u64,
     ) -> u64
         requires forward { at ≤ closes }
-        requires room { spans_in self.old + count_of queue.old ≤ 66 }
+        requires room { span_count self.old + count_of queue.old ≤ 66 }
         requires ordered { Ordered (O.precedes order.now) queue.old }
         ensures ends { result ≡ min closes (at + all_left (things_of queue.old)) }
         ensures says { (has : ℕ → ℕ → Bool) → AreTurns (O.precedes order.now) (things_of queue.old) at closes has → Says at has (spans_of self.old) → Says result has (spans_of self.new) }
-        ensures room { spans_in self.new ≤ spans_in self.old + count_of queue.old }
+        ensures room { span_count self.new ≤ span_count self.old + count_of queue.old }
         ensures stays { Stays (O.precedes order.now) (count_of queue.old) queue.old queue.new }
     {
         let mut reached = at;

@@ -1,9 +1,7 @@
-use Rattle.std.proofs.Common.{◌≡◌, ◌+◌, ◌-◌, subst, min, refl, ap, arith}
+use Rattle.std.proofs.Common.{◌≡◌, ◌+◌, ◌-◌, min, refl, ap, arith}
 use Rattle.std.proofs.lemmas.List.{length-take}
-use Rattle.book.specs.Sheets.{Says}
 use Rattle.queue.proofs.Stays.{stays_on}
 use Rattle.queue.specs.Queues.{things_of, count_of}
-use Rattle.roster.specs.Spans.{spans_of}
 use Rattle.roster.proofs.Lineups.{taken_none, taken_more, turn_is, taken_all, taken_full}
 use Rattle.roster.proofs.sheet.row.Row.take_turns.Goals as goal
 
