@@ -31,7 +31,7 @@ module _ (plan : Plan) (dates : ℕ → ℕ → Bool) (entries : List Entry) whe
   abbrev rack : Rack
   rack = rack_of plan
 
-  -- the tick to which the first k entries took the group of model i
+  -- the tick to which the first k entries took group g from tick 0
   abbrev pub present_at : ℕ → ℕ → ℕ
   present_at k g = taken_to g 0 (sheets_in (take k entries))
 
