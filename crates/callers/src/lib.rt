@@ -1,0 +1,31 @@
+//! A caller that withdraws a model, has group 1 go two intervals, and then withdraws another.
+//! What it knows of the sheets that it keeps follows from the contracts of the calls alone.
+#![tactic(auto)]
+
+pub mod listed;
+
+use kinds::runs::Run;
+use season::Answer;
+
+/// What fills scratch that is still to be lent.
+const NO_RUN: Run = Run {
+    model: 0,
+    deadline: 0,
+    remaining: 0,
+};
+
+/// What is kept of an interval: the answer, and the words of the sheet.
+#[derive(Clone, Copy, Debug)]
+pub struct Interval {
+    pub answer: Answer,
+    pub words: [u64; 512],
+}
+
+/// What is kept of the four calls: the answers of the two withdrawals, and the intervals between them.
+#[derive(Clone, Copy, Debug)]
+pub struct Kept {
+    pub before: Answer,
+    pub first: Interval,
+    pub second: Interval,
+    pub after: Answer,
+}
