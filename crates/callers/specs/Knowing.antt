@@ -45,4 +45,4 @@ module _ (plan : Plan) (dates : ℕ → ℕ → Bool) (before : ℕ) where
     -- at no part of time is a model on two workers
     pub apart : (i x : ℕ) → HasModel plan.set i → workers_with rack.grain (sheets_of kept) i x ≤ 1
     -- the model that was withdrawn before them gets nothing
-    pub out : kept.before ≡ Withdrew → (x : ℕ) → workers_with rack.grain (sheets_of kept) before x ≡ 0
+    pub out : kept.withdrawal ≡ Withdrew → (x : ℕ) → workers_with rack.grain (sheets_of kept) before x ≡ 0

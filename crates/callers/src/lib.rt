@@ -1,8 +1,9 @@
-//! A caller that withdraws a model, has group 1 go two intervals, and then withdraws another.
-//! What it knows of the sheets that it keeps follows from the contracts of the calls alone.
+//! Two callers that withdraw a model, have group 1 go two intervals, and then withdraw another: one by a list of calls, one call by call.
+//! Both know the same of the sheets that they keep, from the contracts of the calls alone.
 #![tactic(auto)]
 
 pub mod listed;
+pub mod stepped;
 
 use kinds::runs::Run;
 use season::Answer;
@@ -24,8 +25,8 @@ pub struct Interval {
 /// What is kept of the four calls: the answers of the two withdrawals, and the intervals between them.
 #[derive(Clone, Copy, Debug)]
 pub struct Kept {
-    pub before: Answer,
+    pub withdrawal: Answer,
     pub first: Interval,
     pub second: Interval,
-    pub after: Answer,
+    pub last_withdrawal: Answer,
 }

@@ -38,10 +38,10 @@ pub fn two_intervals<C: Calendar, O: Order<Item = Run>>(
     ];
     perform(plan, calendar, order, &mut entries)?;
     Ok(Kept {
-        before: answer(&entries[0]),
+        withdrawal: answer(&entries[0]),
         first: interval(&entries[1]),
         second: interval(&entries[2]),
-        after: answer(&entries[3]),
+        last_withdrawal: answer(&entries[3]),
     })
 }
 

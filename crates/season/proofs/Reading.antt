@@ -8,7 +8,7 @@ use Rattle.book.specs.Racks.{Rack}
 use Rattle.book.specs.Sheets.{Row, Span, Sheet, words_of}
 use Rattle.book.specs.Books.{Book}
 use Rattle.book.specs.Buffers.{words_after}
-use Rattle.book.specs.Calls.{Answer as Given, Advanced, numbers_of, Step, declines, advances, rests, withdraws, stands, Leads, ends, goes}
+use Rattle.book.specs.Calls.{Advance, Answer as Given, Advanced, numbers_of, Step, declines, advances, rests, withdraws, stands, Leads, ends, goes}
 use Rattle.season.specs.declared.call.Call.{Call}
 use Rattle.season.specs.declared.call.Call.TheVariants as call
 use Rattle.season.specs.declared.answer.Answer.{Answer}
@@ -75,13 +75,18 @@ sheet_read s start end first count words is =
     λ i. record { group = s.group; start = (is i).0; end = (is i).1; first = (is i).2; rows = rows i } ∷ []
 
 module _ {rack : Rack} {dates : ℕ → ℕ → Bool} {precedes : Run → Run → Bool} where
+  -- an advance adds to the sheets of the book what is read in its answer and its words
+  pub held_advance : (b : Book) (g n m : ℕ) (given : Given) (c : Book) (a : Answer) (old : List ℕ) → Step rack dates precedes b (Advance g n m) given c → IsAnswer a given
+      → c.sheets ≡ b.sheets ++ sheet_in (call.Advance g) (Some a) (words_after given old)
+  held_advance b g n m _ _ _ old (declines _ _ why) (refused e x told) = sym (append-nil b.sheets)
+  held_advance b g n m _ _ _ old (rests _ _ _ fine last) (refused e x told) = sym (append-nil b.sheets)
+  held_advance b g n m _ _ _ old (advances _ _ _ _ fine next) (advanced start end first count s is) =
+      ap (λ (more : List Sheet). b.sheets ++ more) (sym (subst (λ (k : ℕ). sheet_in (call.Advance k) (Some (answer.Advanced start end first count)) (words_after (Advanced s) old) ≡ s ∷ []) next.group' (sheet_read s start end first count _ is)))
+
   -- a call adds to the sheets of the book what its entry holds
   held_one : (b : Book) (call : Call) (n : List ℕ) (m : List Run) (given : Given) (c : Book) (a : Answer) (old : List ℕ) → Step rack dates precedes b (asked call n m) given c → IsAnswer a given
       → c.sheets ≡ b.sheets ++ sheet_in call (Some a) (words_after given old)
-  held_one b (call.Advance g) n m _ _ _ old (declines _ _ why) (refused e x told) = sym (append-nil b.sheets)
-  held_one b (call.Advance g) n m _ _ _ old (rests _ _ _ fine last) (refused e x told) = sym (append-nil b.sheets)
-  held_one b (call.Advance g) n m _ _ _ old (advances _ _ _ _ fine next) (advanced start end first count s is) =
-      ap (λ (more : List Sheet). b.sheets ++ more) (sym (subst (λ (k : ℕ). sheet_in (call.Advance k) (Some (answer.Advanced start end first count)) (words_after (Advanced s) old) ≡ s ∷ []) next.group' (sheet_read s start end first count _ is)))
+  held_one b (call.Advance g) n m given c a old step h = held_advance b g (length n) (length m) given c a old step h
   held_one b (call.Withdraw i) n m _ _ a old (declines _ x why) h = sym (append-nil b.sheets)
   held_one b (call.Withdraw i) n m _ _ a old (withdraws _ fine) h = sym (append-nil b.sheets)
   held_one b (call.Standing i) n m _ _ a old (declines _ x why) h = sym (append-nil b.sheets)
