@@ -1,2 +1,3 @@
 pub mod Entries
+pub mod Rosters
 pub mod Steps

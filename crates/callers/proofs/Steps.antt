@@ -1,32 +1,26 @@
 -- What a caller knows that made call after call.
-use Rattle.std.proofs.Common.{◌≡◌, ◌≢◌, ℕ, ◌+◌, ◌-◌, ◌*◌, ◌≤◌, Bool, List, [], ◌∷◌, ◌++◌, append-nil, refl, sym, ap, ◌∙◌, arith}
-use Rattle.std.specs.Bool.{IsTrue, ◌==◌}
+use Rattle.std.proofs.Common.{◌≡◌, ◌≢◌, ℕ, ◌+◌, ◌-◌, ◌*◌, Bool, List, [], ◌∷◌, ◌++◌, append-nil, refl, sym, ap, ◌∙◌, subst, arith}
+use Rattle.std.specs.Bool.{◌==◌}
 use Rattle.std.proofs.lemmas.Bool.{ne_eqb, cond-false}
-use Rattle.set.specs.Sets.{HasModel}
 use Rattle.kinds.specs.declared.runs.Run.{Run}
 use Rattle.plan.specs.declared.plans.Plan.{Plan}
-use Rattle.calendar.specs.declared.Calendar.{Ghosts as CalendarMeaning}
-use Rattle.order.specs.declared.Order.{Ghosts as OrderMeaning}
-use Rattle.order.specs.declared.Thing.{Ghosts as ThingMeaning}
-use Rattle.book.specs.Racks.{Rack, rack_of, is_divided}
-use Rattle.book.specs.Sheets.{Sheet, got, workers_with}
+use Rattle.book.specs.Racks.{Rack, rack_of}
+use Rattle.book.specs.Sheets.{Sheet}
 use Rattle.book.specs.Books.{Book, blank, group_with}
-use Rattle.book.specs.Calls.{Call, Advance, Withdraw, Answer as Given, Advanced, Withdrew, Step, declines, advances, rests, withdraws, Leads, ends, goes}
+use Rattle.book.specs.Calls.{Advance, Withdraw, Answer as Given, Advanced, Withdrew, Step, declines, advances, rests, withdraws, Leads, ends, goes}
 use Rattle.book.specs.Laws.{Lawful, Reached, Remains, HasRun, Passes}
+use Rattle.book.proofs.Exists.{answered}
 use Rattle.book.proofs.Keeps.{reached_more}
 use Rattle.book.proofs.Kept.{fair_shares, one_worker, whole_runs}
 use Rattle.book.proofs.Only.{none_withdrawn}
 use Rattle.book.proofs.Due.{ends_due, goes_on}
-use Rattle.roster.specs.declared.Roster.{Roster}
-use Rattle.roster.specs.Keeping.{Tells, Keeps, Opened}
 use Rattle.season.specs.declared.call.Call.TheVariants as call
 use Rattle.season.specs.declared.answer.Answer.TheVariants as answer
 use Rattle.season.specs.Asking.{Says, advanced, withdrew}
 use Rattle.season.proofs.Reading.{held_one}
 use Rattle.callers.specs.declared.Interval.{Interval}
 use Rattle.callers.specs.declared.Kept.{Kept}
-use Rattle.callers.specs.Knowing.{sheet_of, sheets_of, EndsAt, Begins, Knows}
-use Rattle.callers.specs.Stepping.{IsKept}
+use Rattle.callers.specs.Knowing.{sheet_of, sheets_of, IsKept, AreKept, calls_of, Begins, Knows}
 
 -- an interval that ends at a tick has a sheet that does
 ends_with : {start t first written : ℕ} (given : Given) → Says (answer.Advanced start t first written) given → (s : Sheet) × ((given ≡ Advanced s) × (s.end ≡ t))
@@ -113,85 +107,31 @@ module _ {plan : Plan} {dates : ℕ → ℕ → Bool} {spacings : ℕ → ℕ} {
   passes : (b c : Book) (s : Sheet) → Reached plan dates precedes b → Step rack dates precedes b (Advance 1 512 64) (Advanced s) c → Passes plan dates precedes b c 1 s
   passes b c s reached step = (ends_due plan dates spacings precedes lawful b reached 1).0 c 512 64 s step (goes_on plan dates spacings precedes lawful b c reached 1 512 64 s step)
 
-  shared : (t : ℕ) → EndsAt t kept.first → (i : ℕ) → Begins plan dates before i → IsTrue (is_divided (rack.pieces i)) → got rack.grain (sheets_of kept) i 0 (t * rack.grain) ≡ rack.weight i * t
-  shared t (start, first, written, is) i b divided =
-      let (s, (is_s, at_t)) = ends_with p.answers.1 (rw is at p.first'.says) in
-      let step = rw is_s at p.second_step in
-      let begins : s.start ≡ 0 = (passes p.one p.two s to_one step).from ∙ no_move p.first_step 1 in
-      let some_period = (plan.set.timed (i - 1) (omega (arith, b.model.first, b.model.last))).0 in
-      let run : HasRun plan dates precedes p.one i 0 = record { remains = stays i b; date = b.date; begun = omega arith; goes = omega (arith, no_move p.first_step (group_with rack i), some_period) } in
-      let share = fair_shares plan dates spacings precedes lawful p.one p.two p.end to_one 1 512 64 s step _ _ two_on i 0 b.here divided run in
-      let none : 0 * rack.grain ≡ 0 = omega arith in
-      let all : t - 0 ≡ t = omega arith in
-      rw (same, begins, at_t, none, all) at share
-
-  whole : (t : ℕ) → EndsAt t kept.second → (i : ℕ) → Begins plan dates before i → rack.period i ≤ t → got rack.grain (sheets_of kept) i 0 (rack.period i * rack.grain) ≡ rack.parts i
-  whole t (start, first, written, is) i b over =
-      let (s, (is_s, at_t)) = ends_with p.answers.2 (rw is at p.second'.says) in
-      let now : p.three.present (group_with rack i) ≡ t = rw b.here ((passes p.two p.three s to_two (rw is_s at p.third_step)).to ∙ at_t) in
-      let run = whole_runs plan dates spacings precedes lawful p.three p.end to_three _ _ last_on i 0 (still_stays i b) b.date (omega (arith, now, over)) in
-      let none : 0 * rack.grain ≡ 0 = omega arith in
-      let due : 0 + rack.period i ≡ rack.period i = omega arith in
-      rw (same, none, due) at run
-
-  apart : (i x : ℕ) → HasModel plan.set i → workers_with rack.grain (sheets_of kept) i x ≤ 1
-  apart i x model = rw same at (one_worker plan dates spacings precedes lawful p.end (reached_more to_three p.last_step) i x model)
-
-  out : kept.withdrawal ≡ answer.Withdrew → (x : ℕ) → workers_with rack.grain (sheets_of kept) before x ≡ 0
-  out is x =
-      let step = rw (was_withdrawn p.answers.0 (rw is at p.withdrawal')) at p.first_step in
-      rw same at (none_withdrawn plan dates spacings precedes lawful blank p.one p.end from_blank before step _ _ one_on x (omega arith))
-
-  pub knows : Knows plan dates before kept
-  knows = record { shared = shared; whole = whole; apart = apart; out = out }
-
-module _ {C O : Type 0} {calendar : CalendarMeaning C} {order : OrderMeaning O Run} {thing : ThingMeaning Run} (plan : Plan) (c : C) (o : O) where
-  -- a roster over these tells the book b
-  record At (x : Roster C O calendar order thing) (b : Book) : Type 0 where
-    pub plan' : x.plan.now ≡ plan
-    pub calendar' : x.calendar.now ≡ c
-    pub order' : x.order.now ≡ o
-    pub tells : Tells x b
-
-  -- by the book: the answer to a call, of which `gives` holds, and the book after it
-  record Next (call : Call) (gives : Given → Type 0) (y : Roster C O calendar order thing) (b : Book) : Type 0 where
-    pub answer : Given
-    pub after : Book
-    pub step : Step (rack_of plan) (calendar.dates c) (order.precedes o) b call answer after
-    pub gives' : gives answer
-    pub at : At y after
-
-  next : (x y : Roster C O calendar order thing) (b : Book) (call : Call) (gives : Given → Type 0) → At x b → Keeps x call gives y → Next call gives y b
-  next x y b call gives at keeps =
-      let w = keeps.goes b at.tells in
-      record {
-        answer = w.answer;
-        after = w.after;
-        step = rw (at.plan', at.calendar', at.order') at w.step;
-        gives' = w.gives';
-        at = record { plan' = keeps.over.plan' ∙ at.plan'; calendar' = keeps.over.calendar' ∙ at.calendar'; order' = keeps.over.order' ∙ at.order'; tells = w.tells };
-      }
-
-  module _ (v w x y z : Roster C O calendar order thing) (before after : ℕ) (kept : Kept) where
-    pub steps : Opened plan c o v → Keeps v (Withdraw before) (Says kept.withdrawal) w → Keeps w (Advance 1 512 64) (IsKept kept.first) x
-        → Keeps x (Advance 1 512 64) (IsKept kept.second) y → Keeps y (Withdraw after) (Says kept.last_withdrawal) z → Steps plan (calendar.dates c) (order.precedes o) before after kept
-    steps opened k l m n =
-        let e = next v w blank (Withdraw before) (Says kept.withdrawal) (record { plan' = opened.plan'; calendar' = opened.calendar'; order' = opened.order'; tells = opened.blank' }) k in
-        let f = next w x e.after (Advance 1 512 64) (IsKept kept.first) e.at l in
-        let g = next x y f.after (Advance 1 512 64) (IsKept kept.second) f.at m in
-        let h = next y z g.after (Withdraw after) (Says kept.last_withdrawal) g.at n in
-        record {
-          one = e.after;
-          two = f.after;
-          three = g.after;
-          end = h.after;
-          answers = (e.answer, f.answer, g.answer, h.answer);
-          first_step = e.step;
-          second_step = f.step;
-          third_step = g.step;
-          last_step = h.step;
-          withdrawal' = e.gives';
-          first' = f.gives';
-          second' = g.gives';
-          last_withdrawal' = h.gives';
-        }
+  pub knows : Knows plan dates precedes before after kept
+  knows = record {
+    told = λ answers end led.
+        let law = answered plan dates spacings precedes lawful (calls_of before after) in
+        let here = law.only _ p.end (goes blank p.one p.end (Withdraw before) p.answers.0 _ _ p.first_step one_on) in
+        subst (AreKept kept) (here.0 ∙ sym (law.only answers end led).0) (p.withdrawal', p.first', p.second', p.last_withdrawal');
+    shared = λ t (start, first, written, is) i b divided.
+        let (s, (is_s, at_t)) = ends_with p.answers.1 (rw is at p.first'.says) in
+        let step = rw is_s at p.second_step in
+        let begins : s.start ≡ 0 = (passes p.one p.two s to_one step).from ∙ no_move p.first_step 1 in
+        let some_period = (plan.set.timed (i - 1) (omega (arith, b.model.first, b.model.last))).0 in
+        let run : HasRun plan dates precedes p.one i 0 = record { remains = stays i b; date = b.date; begun = omega arith; goes = omega (arith, no_move p.first_step (group_with rack i), some_period) } in
+        let share = fair_shares plan dates spacings precedes lawful p.one p.two p.end to_one 1 512 64 s step _ _ two_on i 0 b.here divided run in
+        let none : 0 * rack.grain ≡ 0 = omega arith in
+        let all : t - 0 ≡ t = omega arith in
+        rw (same, begins, at_t, none, all) at share;
+    whole = λ t (start, first, written, is) i b over.
+        let (s, (is_s, at_t)) = ends_with p.answers.2 (rw is at p.second'.says) in
+        let now : p.three.present (group_with rack i) ≡ t = rw b.here ((passes p.two p.three s to_two (rw is_s at p.third_step)).to ∙ at_t) in
+        let run = whole_runs plan dates spacings precedes lawful p.three p.end to_three _ _ last_on i 0 (still_stays i b) b.date (omega (arith, now, over)) in
+        let none : 0 * rack.grain ≡ 0 = omega arith in
+        let due : 0 + rack.period i ≡ rack.period i = omega arith in
+        rw (same, none, due) at run;
+    apart = λ i x model. rw same at (one_worker plan dates spacings precedes lawful p.end (reached_more to_three p.last_step) i x model);
+    out = λ is x.
+        let step = rw (was_withdrawn p.answers.0 (rw is at p.withdrawal')) at p.first_step in
+        rw same at (none_withdrawn plan dates spacings precedes lawful blank p.one p.end from_blank before step _ _ one_on x (omega arith));
+  }

@@ -23,7 +23,7 @@ pub fn two_intervals<C: Calendar, O: Order<Item = Run>>(
     before: u32,
     after: u32,
 ) -> Result<Kept, Refusal>
-    ensures { Answers (about_opening (rack_of plan.now) (C.spacings calendar.now)) result (Knows plan.now (C.dates calendar.now) before) }
+    ensures { Answers (about_opening (rack_of plan.now) (C.spacings calendar.now)) result (Knows plan.now (C.dates calendar.now) (O.precedes order.now) before after) }
 {
     let mut sheet = [0; 512];
     let mut scratch = [NO_RUN; 64];
@@ -48,7 +48,8 @@ pub fn two_intervals<C: Calendar, O: Order<Item = Run>>(
 /// An entry with a call that is still to be made.
 fn entry<'a>(call: Call, sheet: &'a mut [u64], scratch: &'a mut [Run]) -> Entry<'a>
     ensures call { result.call ≡ call }
-    ensures long { length result.sheet.now ≡ length sheet.old }
+    ensures words { length result.sheet.now ≡ length sheet.old }
+    ensures things { length result.scratch.now ≡ length scratch.old }
 {
     Entry {
         call,

@@ -4,8 +4,7 @@ ghost use Rattle.book.specs.Racks.{rack_of};
 ghost use Rattle.book.specs.Calls.{about_opening, Advance, Withdraw};
 ghost use Rattle.roster.specs.Keeping.{Keeps};
 ghost use Rattle.season.specs.Asking.{Says};
-ghost use Rattle.callers.specs.Knowing.{Knows};
-ghost use Rattle.callers.specs.Stepping.{IsKept};
+ghost use Rattle.callers.specs.Knowing.{IsKept, Knows};
 
 use crate::{Interval, Kept, NO_RUN};
 use calendar::Calendar;
@@ -25,7 +24,7 @@ pub fn two_intervals<C: Calendar, O: Order<Item = Run>>(
     before: u32,
     after: u32,
 ) -> Result<Kept, Refusal>
-    ensures { Answers (about_opening (rack_of plan.now) (C.spacings calendar.now)) result (Knows plan.now (C.dates calendar.now) before) }
+    ensures { Answers (about_opening (rack_of plan.now) (C.spacings calendar.now)) result (Knows plan.now (C.dates calendar.now) (O.precedes order.now) before after) }
 {
     let mut roster = Roster::open(plan, calendar, order)?;
     let withdrawal = withdraw(&mut roster, before);
