@@ -14,7 +14,7 @@ use Rattle.season.specs.declared.call.Call.TheVariants as call
 use Rattle.season.specs.declared.answer.Answer.{Answer}
 use Rattle.season.specs.declared.answer.Answer.TheVariants as answer
 use Rattle.season.specs.declared.entry.Entry.{Entry}
-use Rattle.season.specs.Asking.{asked, Says}
+use Rattle.season.specs.Asking.{asked, IsAnswer}
 use Rattle.season.specs.Reading.{rows_in, sheet_in, sheets_in}
 use Rattle.season.specs.Serving.{taken_to, withdrew, InUse, HoldsSheet, Serves}
 use Rattle.season.specs.Performing.{asked_by, Holds, Performed, Hold, hold_none, hold_more}
@@ -116,25 +116,25 @@ long_at (hold_more _ _ _ _ _ _ met others) zero d = met.long.0
 long_at (hold_more _ _ _ _ _ _ met others) (suc k) d = long_at others k d
 
 -- what is asked by an entry tells its call
-asks_withdrawal : (c : Call) (words things : ℕ) (i : ℕ) → asked c words things ≡ Withdraw i → c ≡ call.Withdraw i
+asks_withdrawal : (c : Call) (words : List ℕ) (things : List Run) (i : ℕ) → asked c words things ≡ Withdraw i → c ≡ call.Withdraw i
 asks_withdrawal (call.Withdraw j) words things i is = cc
 asks_withdrawal (call.Advance g) words things i is = absurd (cc)
 asks_withdrawal (call.Standing j) words things i is = absurd (cc)
 
-asks_advance : (c : Call) (words things : ℕ) → asked c words things ≡ Advance 1 512 64 → c ≡ call.Advance 1
+asks_advance : (c : Call) (words : List ℕ) (things : List Run) → asked c words things ≡ Advance 1 512 64 → c ≡ call.Advance 1
 asks_advance (call.Advance g) words things is = cc
 asks_advance (call.Withdraw j) words things is = absurd (cc)
 asks_advance (call.Standing j) words things is = absurd (cc)
 
 -- what is kept of an entry says what the book answers
-says_kept : (old new : Entry) (given : Given) (a : Answer) → Holds old given new → new.answer ≡ Some a → Says a given
+says_kept : (old new : Entry) (given : Given) (a : Answer) → Holds old given new → new.answer ≡ Some a → IsAnswer a given
 says_kept old new given a met is =
     let some : Some met.answer ≡ Some a = sym met.answer' ∙ is in
     let same : met.answer ≡ a = cc in
-    subst (λ (b : Answer). Says b given) same met.says
+    subst (λ (b : Answer). IsAnswer b given) same met.gives.is
 
 is_kept : (old new : Entry) (given : Given) (interval : Interval) → Holds old given new → KeptOf new interval → IsKept interval given
-is_kept old new given interval met is = record { says = says_kept old new given interval.answer met is.answer'; lent = old.sheet.now; words' = sym is.words' ∙ met.leaves.in_words }
+is_kept old new given interval met is = record { says = says_kept old new given interval.answer met is.answer'; lent = old.sheet.now; words' = sym is.words' ∙ met.gives.leaves.in_words }
 
 -- what is known of entries that were performed
 pub known : {plan : Plan} {dates : ℕ → ℕ → Bool} {precedes : Run → Run → Bool} {before after : ℕ} {n o p q : Entry} {news : List Entry} {kept : Kept} (d : Entry)

@@ -9,8 +9,8 @@ use Rattle.book.specs.Racks.{rack_of}
 use Rattle.book.specs.Books.{Book}
 use Rattle.book.specs.Calls.{Call, Advance, Withdraw, Answer as Given, Step}
 use Rattle.roster.specs.declared.Roster.{Roster}
-use Rattle.roster.specs.Keeping.{Tells, Keeps, Opened}
-use Rattle.season.specs.Asking.{Says}
+use Rattle.roster.specs.Keeping.{IsBookOf, Keeps, Opened}
+use Rattle.season.specs.Asking.{IsAnswer}
 use Rattle.callers.specs.declared.Kept.{Kept}
 use Rattle.callers.specs.Knowing.{IsKept}
 use Rattle.callers.proofs.Steps.{Steps}
@@ -21,7 +21,7 @@ module _ {C O : Type 0} {calendar : CalendarMeaning C} {order : OrderMeaning O R
     pub plan' : x.plan.now ≡ plan
     pub calendar' : x.calendar.now ≡ c
     pub order' : x.order.now ≡ o
-    pub tells : Tells x b
+    pub tells : IsBookOf x b
 
   -- by the book: the answer to a call, of which `gives` holds, and the book after it
   record Next (call : Call) (gives : Given → Type 0) (y : Roster C O calendar order thing) (b : Book) : Type 0 where
@@ -40,12 +40,12 @@ module _ {C O : Type 0} {calendar : CalendarMeaning C} {order : OrderMeaning O R
         after = w.after;
         step = rw (at.plan', at.calendar', at.order') at w.step;
         gives' = w.gives';
-        at = record { plan' = keeps.over.plan' ∙ at.plan'; calendar' = keeps.over.calendar' ∙ at.calendar'; order' = keeps.over.order' ∙ at.order'; tells = w.tells };
+        at = record { plan' = keeps.over.plan' ∙ at.plan'; calendar' = keeps.over.calendar' ∙ at.calendar'; order' = keeps.over.order' ∙ at.order'; tells = w.is };
       }
 
   pub steps : {v w x y z : Roster C O calendar order thing} {before after : ℕ} {kept : Kept}
-      → Opened plan c o v → Keeps v (Withdraw before) (Says kept.withdrawal) w → Keeps w (Advance 1 512 64) (IsKept kept.first) x
-      → Keeps x (Advance 1 512 64) (IsKept kept.second) y → Keeps y (Withdraw after) (Says kept.last_withdrawal) z
+      → Opened plan c o v → Keeps v (Withdraw before) (IsAnswer kept.withdrawal) w → Keeps w (Advance 1 512 64) (IsKept kept.first) x
+      → Keeps x (Advance 1 512 64) (IsKept kept.second) y → Keeps y (Withdraw after) (IsAnswer kept.last_withdrawal) z
       → Steps plan (calendar.dates c) (order.precedes o) before after kept
   steps opened k l m n =
       let e = next (record { plan' = opened.plan'; calendar' = opened.calendar'; order' = opened.order'; tells = opened.blank' }) k in

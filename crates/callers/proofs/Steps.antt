@@ -16,17 +16,17 @@ use Rattle.book.proofs.Only.{none_withdrawn}
 use Rattle.book.proofs.Due.{ends_due, goes_on}
 use Rattle.season.specs.declared.call.Call.TheVariants as call
 use Rattle.season.specs.declared.answer.Answer.TheVariants as answer
-use Rattle.season.specs.Asking.{Says, advanced, withdrew}
-use Rattle.season.proofs.Reading.{held_one}
+use Rattle.season.specs.Asking.{IsAnswer, advanced, withdrew}
+use Rattle.season.proofs.Reading.{held_one, held_advance}
 use Rattle.callers.specs.declared.Interval.{Interval}
 use Rattle.callers.specs.declared.Kept.{Kept}
 use Rattle.callers.specs.Knowing.{sheet_of, sheets_of, IsKept, AreKept, calls_of, Begins, Knows}
 
 -- an interval that ends at a tick has a sheet that does
-ends_with : {start t first written : ℕ} (given : Given) → Says (answer.Advanced start t first written) given → (s : Sheet) × ((given ≡ Advanced s) × (s.end ≡ t))
+ends_with : {start t first written : ℕ} (given : Given) → IsAnswer (answer.Advanced start t first written) given → (s : Sheet) × ((given ≡ Advanced s) × (s.end ≡ t))
 ends_with _ (advanced _ _ _ _ s is) = (s, (refl, sym (ap (λ (n : ℕ × ℕ × ℕ × ℕ). n.1) is)))
 
-was_withdrawn : (given : Given) → Says answer.Withdrew given → given ≡ Withdrew
+was_withdrawn : (given : Given) → IsAnswer answer.Withdrew given → given ≡ Withdrew
 was_withdrawn _ withdrew = refl
 
 module _ {rack : Rack} {dates : ℕ → ℕ → Bool} {precedes : Run → Run → Bool} where
@@ -55,10 +55,10 @@ pub record Steps (plan : Plan) (dates : ℕ → ℕ → Bool) (precedes : Run �
   pub second_step : Step (rack_of plan) dates precedes one (Advance 1 512 64) answers.1 two
   pub third_step : Step (rack_of plan) dates precedes two (Advance 1 512 64) answers.2 three
   pub last_step : Step (rack_of plan) dates precedes three (Withdraw after) answers.3 end
-  pub withdrawal' : Says kept.withdrawal answers.0
+  pub withdrawal' : IsAnswer kept.withdrawal answers.0
   pub first' : IsKept kept.first answers.1
   pub second' : IsKept kept.second answers.2
-  pub last_withdrawal' : Says kept.last_withdrawal answers.3
+  pub last_withdrawal' : IsAnswer kept.last_withdrawal answers.3
 
 module _ {plan : Plan} {dates : ℕ → ℕ → Bool} {spacings : ℕ → ℕ} {precedes : Run → Run → Bool} (lawful : Lawful plan dates spacings precedes) {before after : ℕ} {kept : Kept} (p : Steps plan dates precedes before after kept) where
   abbrev rack : Rack
@@ -87,14 +87,14 @@ module _ {plan : Plan} {dates : ℕ → ℕ → Bool} {spacings : ℕ → ℕ} {
 
   -- an advance adds the sheet that is kept of it
   added : (b c : Book) (given : Given) (interval : Interval) → Step rack dates precedes b (Advance 1 512 64) given c → IsKept interval given → c.sheets ≡ b.sheets ++ sheet_of interval
-  added b c given interval step is = rw is.words' (held_one b (call.Advance 1) 512 64 given c interval.answer is.lent step is.says)
+  added b c given interval step is = rw is.words' (held_advance b 1 512 64 given c interval.answer is.lent step is.says)
 
   no_sheet : p.one.sheets ≡ []
-  no_sheet = held_one blank (call.Withdraw before) 0 0 p.answers.0 p.one kept.withdrawal [] p.first_step p.withdrawal'
+  no_sheet = held_one blank (call.Withdraw before) [] [] p.answers.0 p.one kept.withdrawal [] p.first_step p.withdrawal'
 
   same : p.end.sheets ≡ sheets_of kept
   same =
-      held_one p.three (call.Withdraw after) 0 0 p.answers.3 p.end kept.last_withdrawal [] p.last_step p.last_withdrawal' ∙ append-nil p.three.sheets
+      held_one p.three (call.Withdraw after) [] [] p.answers.3 p.end kept.last_withdrawal [] p.last_step p.last_withdrawal' ∙ append-nil p.three.sheets
       ∙ added p.two p.three p.answers.2 kept.second p.third_step p.second'
       ∙ ap (λ (ss : List Sheet). ss ++ sheet_of kept.second) (added p.one p.two p.answers.1 kept.first p.second_step p.first' ∙ ap (λ (ss : List Sheet). ss ++ sheet_of kept.first) no_sheet)
 

@@ -10,7 +10,7 @@ use Rattle.book.specs.Calls.{Call, Advance, Withdraw, Answer as Given, Leads}
 use Rattle.book.specs.Buffers.{words_after}
 use Rattle.season.specs.declared.call.Call.TheVariants as call
 use Rattle.season.specs.declared.answer.Answer.TheVariants as answer
-use Rattle.season.specs.Asking.{Says}
+use Rattle.season.specs.Asking.{IsAnswer}
 use Rattle.season.specs.Reading.{sheet_in}
 use Rattle.callers.specs.declared.Interval.{Interval}
 use Rattle.callers.specs.declared.Kept.{Kept}
@@ -29,13 +29,13 @@ EndsAt t interval = (start first written : ℕ) × (interval.answer ≡ answer.A
 
 -- an interval says what the book answers, and has what that leaves in the words that were lent
 pub record IsKept (interval : Interval) (given : Given) : Type 0 where
-  pub says : Says interval.answer given
+  pub says : IsAnswer interval.answer given
   pub lent : List ℕ
   pub words' : interval.words ≡ words_after given lent
 
 -- what is kept is what the book answers to the four calls
 abbrev pub AreKept : Kept → List Given → Type 0
-AreKept kept (p ∷ q ∷ r ∷ s ∷ []) = Says kept.withdrawal p × IsKept kept.first q × IsKept kept.second r × Says kept.last_withdrawal s
+AreKept kept (p ∷ q ∷ r ∷ s ∷ []) = IsAnswer kept.withdrawal p × IsKept kept.first q × IsKept kept.second r × IsAnswer kept.last_withdrawal s
 AreKept kept _ = ⊥
 
 -- the four calls, as the book takes them

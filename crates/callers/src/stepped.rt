@@ -3,7 +3,7 @@ ghost use Rattle.refusal.specs.Refusals.{Answers};
 ghost use Rattle.book.specs.Racks.{rack_of};
 ghost use Rattle.book.specs.Calls.{about_opening, Advance, Withdraw};
 ghost use Rattle.roster.specs.Keeping.{Keeps};
-ghost use Rattle.season.specs.Asking.{Says};
+ghost use Rattle.season.specs.Asking.{IsAnswer};
 ghost use Rattle.callers.specs.Knowing.{IsKept, Knows};
 
 use crate::{Interval, Kept, NO_RUN};
@@ -41,7 +41,7 @@ pub fn two_intervals<C: Calendar, O: Order<Item = Run>>(
 
 /// Withdraws a model, and keeps the answer.
 fn withdraw<C: Calendar, O: Order<Item = Run>>(roster: &mut Roster<'_, C, O>, model: u32) -> Answer
-    ensures { Keeps roster.old (Withdraw model) (Says result) roster.new }
+    ensures { Keeps roster.old (Withdraw model) (IsAnswer result) roster.new }
 {
     match roster.withdraw(model) {
         Ok(()) => Answer::Withdrew,

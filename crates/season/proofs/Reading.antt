@@ -84,7 +84,7 @@ module _ {rack : Rack} {dates : ℕ → ℕ → Bool} {precedes : Run → Run �
       ap (λ (more : List Sheet). b.sheets ++ more) (sym (subst (λ (k : ℕ). sheet_in (call.Advance k) (Some (answer.Advanced start end first count)) (words_after (Advanced s) old) ≡ s ∷ []) next.group' (sheet_read s start end first count _ is)))
 
   -- a call adds to the sheets of the book what its entry holds
-  held_one : (b : Book) (call : Call) (n : List ℕ) (m : List Run) (given : Given) (c : Book) (a : Answer) (old : List ℕ) → Step rack dates precedes b (asked call n m) given c → IsAnswer a given
+  pub held_one : (b : Book) (call : Call) (n : List ℕ) (m : List Run) (given : Given) (c : Book) (a : Answer) (old : List ℕ) → Step rack dates precedes b (asked call n m) given c → IsAnswer a given
       → c.sheets ≡ b.sheets ++ sheet_in call (Some a) (words_after given old)
   held_one b (call.Advance g) n m given c a old step h = held_advance b g (length n) (length m) given c a old step h
   held_one b (call.Withdraw i) n m _ _ a old (declines _ x why) h = sym (append-nil b.sheets)
