@@ -1,4 +1,5 @@
 //! Agendas: their dates, their refusals, and what they cost.
+use crate::asked::Asked;
 use crate::piles::{entry, phases};
 use agenda::fill;
 use calendar::Calendar;
@@ -69,30 +70,6 @@ fn refused_agendas(rt: HostRuntime) {
     assert_eq!(rt; fill(&calendar, 0..1, &mut [], &mut scratch), Err(crowded));
 }
 
-/// A calendar that counts how often it is asked for an earliest date.
-#[derive(Clone, Copy)]
-struct Asked<'a, C> {
-    calendar: C,
-    times: &'a Cell<u32>,
-}
-
-impl<C: Calendar> Calendar for Asked<'_, C> {
-    ghost dates = { λ c. C.dates c.calendar };
-
-    ghost spacings = { λ c. C.spacings c.calendar };
-
-    ghost laws = { λ c. C.laws c.calendar };
-
-    fn spacing(&self, model: u32) -> u32 {
-        self.calendar.spacing(model)
-    }
-
-    fn earliest(&self, model: u32, from: u32) -> Option<u32> {
-        self.times.set(self.times.get().saturating_add(1));
-        self.calendar.earliest(model, from)
-    }
-}
-
 /// One question for each model, and one for each date, however far apart the dates lie.
 #[test]
 fn what_an_agenda_costs(rt: HostRuntime) {
@@ -101,7 +78,7 @@ fn what_an_agenda_costs(rt: HostRuntime) {
         let times = Cell::new(0);
         let phases = [Phase { first: 0, period }; 64];
         let calendar = Asked {
-            calendar: PhaseCalendar { phases },
+            inner: PhaseCalendar { phases },
             times: &times,
         };
         assert_eq!(rt;
@@ -118,7 +95,7 @@ fn what_a_crowded_agenda_costs(rt: HostRuntime) {
     let blank = entry(u32::MAX, 0);
     let times = Cell::new(0);
     let calendar = Asked {
-        calendar: phases((0, 1), (0, 1), (0, 1)),
+        inner: phases((0, 1), (0, 1), (0, 1)),
         times: &times,
     };
     let answer = fill(&calendar, 0..END, &mut [blank; 10], &mut [blank; 64]);
@@ -131,7 +108,7 @@ fn what_a_crowded_agenda_costs(rt: HostRuntime) {
 fn what_a_layer_costs(rt: HostRuntime) {
     let times = Cell::new(0);
     let calendar = Asked {
-        calendar: phases((0, 4), (2, 5), (0, 0)),
+        inner: phases((0, 4), (2, 5), (0, 0)),
         times: &times,
     };
     let delay = Delay::new(calendar, 1);

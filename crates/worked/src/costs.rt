@@ -1,32 +1,9 @@
 //! What a call on a queue costs, which no contract says: how often it asks its order, and how many slots it changes.
-ghost use Rattle.order.specs.Keys.{by_keys};
-ghost use Rattle.order.proofs.Keyed.{by_keys-OrderLaws};
-ghost use Rattle.kinds.specs.Keys.{keys_by_tick};
-
+use crate::asked::Asked;
 use kinds::entries::{ByTick, Entry};
-use order::Order;
 use queue::{Full, Queue};
 use std::cell::Cell;
 use std::test::Fail;
-
-/// The order by tick, which counts how often it is asked.
-#[derive(Clone, Copy)]
-struct Asked<'a> {
-    times: &'a Cell<u32>,
-}
-
-impl Order for Asked<'_> {
-    type Item = Entry;
-
-    ghost precedes = { λ _. by_keys keys_by_tick };
-
-    ghost laws = { λ _. by_keys-OrderLaws keys_by_tick 1 };
-
-    fn before(&self, a: &Entry, b: &Entry) -> bool {
-        self.times.set(self.times.get().saturating_add(1));
-        ByTick.before(a, b)
-    }
-}
 
 /// How many slots differ.
 fn count_changed(before: &[Entry; 64], after: &[Entry; 64]) -> usize {
@@ -36,7 +13,10 @@ fn count_changed(before: &[Entry; 64], after: &[Entry; 64]) -> usize {
 /// The slots after so many puts, each of what comes first of all, and so many takes; and how often the last call asked.
 fn slots_after(puts: usize, takes: usize) -> Result<([Entry; 64], u32), Full> {
     let times = Cell::new(0);
-    let order = Asked { times: &times };
+    let order = Asked {
+        inner: ByTick,
+        times: &times,
+    };
     let mut slots = [Entry { tick: 0, model: 0 }; 64];
     let mut queue = Queue::new(&mut slots);
     for tick in (0..64).rev().take(puts) {

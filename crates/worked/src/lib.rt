@@ -4,6 +4,8 @@
 #[cfg(test)]
 mod agendas;
 #[cfg(test)]
+mod asked;
+#[cfg(test)]
 mod costs;
 #[cfg(test)]
 mod figures;
@@ -16,6 +18,12 @@ mod piles;
 #[cfg(test)]
 mod plans;
 #[cfg(test)]
+mod questions;
+#[cfg(test)]
 mod queues;
+#[cfg(test)]
+mod rosters;
+#[cfg(test)]
+mod seasons;
 #[cfg(test)]
 mod texts;

@@ -9,18 +9,39 @@ use set::sets::Set;
 use set::sizes::MODELS;
 use std::test::Fail;
 
-/// The plan of at most 64 weights.
-fn placed(workers: u32, group_size: u32, grain: u32, weights: &[u32]) -> Result<Plan, Refusal> {
-    let periods = [grain; MODELS];
-    let count = weights.len().min(MODELS);
+/// The plan of models with these costs and periods.
+pub(crate) fn planned(
+    workers: u32,
+    group_size: u32,
+    grain: u32,
+    costs: &[u32],
+    periods: &[u32],
+) -> Result<Plan, Refusal> {
     let figures = Figures {
         workers,
         group_size,
         grain,
-        costs: weights,
-        periods: &periods[..count],
+        costs,
+        periods,
     };
     place(&Set::try_from(&figures)?)
+}
+
+/// The plan of at most 64 weights.
+pub(crate) fn placed(
+    workers: u32,
+    group_size: u32,
+    grain: u32,
+    weights: &[u32],
+) -> Result<Plan, Refusal> {
+    let count = weights.len().min(MODELS);
+    planned(
+        workers,
+        group_size,
+        grain,
+        weights,
+        &[grain; MODELS][..count],
+    )
 }
 
 #[test]
