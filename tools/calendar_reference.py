@@ -99,22 +99,26 @@ def list_pile(words):
     return pile, said
 
 
-def answer_of(line):
-    """The answers to the questions of one line."""
-    text, *questions = line.split("?")
-    table, *layers = text.split("|")
+def pile_of(table, *layers):
+    """The pile of a table under these layers, and what is said of a list."""
     kind, *words = table.split()
-    answers = []
     if kind == "phase":
-        pile = phase_pile(words)
+        pile, said = phase_pile(words), None
     elif kind == "list":
         pile, said = list_pile(words)
-        answers.append(said)
     else:
         raise ValueError(kind)
     for layer in layers:
         kind, values = layer.split()
         {"delay": pile.delay, "closure": pile.closure}[kind](*numbers(values))
+    return pile, said
+
+
+def answer_of(line):
+    """The answers to the questions of one line."""
+    text, *questions = line.split("?")
+    pile, said = pile_of(*text.split("|"))
+    answers = [said] if said else []
     for question in questions:
         kind, *values = question.split()
         if kind == "spacing":

@@ -1,9 +1,9 @@
 """Writes what the programs are run on in the gate, and what they must print.
 
 crates/cases has many set files in hexadecimal; crates/print has one that goes on for a megabyte; crates/served has
-lists of calls on queues; crates/dated has calendars that are asked; crates/timed
-has agendas that tools/bench times. Run it at the repository's root. What is expected
-comes from tools/reference.py, tools/queue_reference.py and tools/calendar_reference.py, never from the proved programs.
+lists of calls on queues; crates/dated has calendars that are asked; crates/timed has agendas that tools/bench times;
+crates/played has seasons. Run it at the repository's root. What is expected comes from tools/reference.py,
+tools/queue_reference.py, tools/calendar_reference.py and tools/roster_reference.py, never from the proved programs.
 """
 import random
 import struct
@@ -13,6 +13,8 @@ from bench.jobs import JOBS, count_of, line_of
 from calendar_reference import END, answer_of as calendar_answer_of, checksum_of
 from queue_reference import KEYS, answer_of
 from reference import text_of
+from roster_reference import answer_of as season_answer_of
+from seasons import drawn_season, played_edges
 
 TOP = 2**32 - 1
 
@@ -256,6 +258,12 @@ def main():
         stdin.writelines(line + "\n" for line in lines)
     with open("crates/dated/stdout", "w") as stdout:
         stdout.writelines(map(calendar_answer_of, lines))
+    source = random.Random(2026)
+    lines = [*played_edges(), *(drawn_season(source) for _ in range(500))]
+    with open("crates/played/stdin", "w") as stdin:
+        stdin.writelines(line + "\n" for line in lines)
+    with open("crates/played/stdout", "w") as stdout:
+        stdout.writelines(map(season_answer_of, lines))
     jobs = [(end, phases) for _, end, phases in JOBS if count_of(end, phases) < 5_000]
     with open("crates/timed/stdin", "w") as stdin:
         stdin.writelines(line_of(*job) + "\n" for job in jobs)

@@ -37,13 +37,22 @@ def read_set(data):
     return workers, group_size, grain, costs, periods
 
 
-def place(workers, group_size, grain, costs, periods):
-    """The pieces of each model, as a list of (worker, size)."""
-    weights = [cost * (grain // period) for cost, period in zip(costs, periods)]
-    heavy = [
+def weights_of(grain, costs, periods):
+    return [cost * (grain // period) for cost, period in zip(costs, periods)]
+
+
+def heavy_in(workers, group_size, grain, weights):
+    """Which models are heavy."""
+    return [
         group_size < workers and weight * (group_size + 1) > group_size * grain
         for weight in weights
     ]
+
+
+def place(workers, group_size, grain, costs, periods):
+    """The pieces of each model, as a list of (worker, size)."""
+    weights = weights_of(grain, costs, periods)
+    heavy = heavy_in(workers, group_size, grain, weights)
     alone = sum(heavy)
     if alone > workers or (alone == workers and not all(heavy)):
         raise Refused(6, "placement", alone)
