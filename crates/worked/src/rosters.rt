@@ -16,8 +16,8 @@ use standing::{Phase as Doing, Standing};
 use std::ops::Range;
 use std::test::Fail;
 
-/// A word of a sheet before a call.
-pub(crate) const WORD: u64 = 7;
+/// A word of a sheet before a call. No sheet has such a word.
+pub(crate) const WORD: u64 = u64::MAX;
 
 /// A slot of the scratch before a call.
 pub(crate) const BLANK: Run = Run {
@@ -29,7 +29,10 @@ pub(crate) const BLANK: Run = Run {
 /// The words of the two sheets of three models that each need 6 of 10 parts, on two workers.
 pub(crate) const FIRST: [u64; 13] = [2, 2, 3, 40, 100, 60, 80, 100, 2, 1, 3, 0, 2];
 
-pub(crate) const SECOND: [u64; 13] = [2, 2, 3, 60, 100, 20, 80, 100, 1, 2, 2, 3, 0];
+const SECOND: [u64; 13] = [2, 2, 3, 60, 100, 20, 80, 100, 1, 2, 2, 3, 0];
+
+/// The words of the second sheet where model 2 was withdrawn before.
+pub(crate) const PIECES_IDLE: [u64; 13] = [2, 2, 3, 60, 100, 20, 80, 100, 1, 0, 0, 3, 0];
 
 /// Dates of every model each 10 ticks, from 0 on.
 pub(crate) const EVERY_TEN: PhaseCalendar = PhaseCalendar {
@@ -72,7 +75,7 @@ pub(crate) fn refused(fault: Fault, place: u64) -> Refusal {
 }
 
 /// The standing of a run.
-fn live(date: u32, served: u64, lag: i64) -> Standing {
+pub(crate) fn live(date: u32, served: u64, lag: i64) -> Standing {
     Standing {
         phase: Doing::Live,
         date,
@@ -163,8 +166,7 @@ fn refused_models(rt: HostRuntime) -> Result<(), Fail> {
     assert_eq!(rt; roster.withdraw(2), Err(refused(Fault::Withdrawn, 2)));
     assert_eq!(rt; roster.standing(2), Ok(idle(Doing::Withdrawn)));
     assert_eq!(rt; roster.standing(1), Ok(live(10, 0, 0)));
-    let pieces_idle = [2, 2, 3, 60, 100, 20, 80, 100, 1, 0, 0, 3, 0];
-    assert_eq!(rt; advance(&mut roster, 1)?, sheet(10..20, 1, &pieces_idle));
+    assert_eq!(rt; advance(&mut roster, 1)?, sheet(10..20, 1, &PIECES_IDLE));
     Ok(())
 }
 

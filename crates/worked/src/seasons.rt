@@ -1,83 +1,78 @@
 //! Lists of calls that are performed at once.
 use crate::piles::entry;
 use crate::plans::placed;
-use crate::rosters::{BLANK, EVERY_TEN, FIRST, WORD, idle, refused};
+use crate::rosters::{BLANK, EVERY_TEN, FIRST, PIECES_IDLE, WORD, idle, live, refused};
 use calendars::list::ListCalendar;
 use kinds::runs::ByModel;
 use refusal::{Fault, Layer, Lent};
 use season::{Answer, Call, Entry, perform};
-use standing::{Phase as Doing, Standing};
+use standing::Phase as Doing;
 use std::test::Fail;
 
-/// Each call gets its answer and writes into its own memory, of whatever length; only an advance that is accepted writes.
-#[test]
-fn mixed_calls(rt: HostRuntime) -> Result<(), Fail> {
-    let (few, short) = (Lent::Sheet.place(), Lent::Scratch.place());
-    let live = Standing {
-        phase: Doing::Live,
-        date: 10,
-        served: 0,
-        lag: 0,
-    };
-    let pieces_idle = [2, 2, 3, 60, 100, 20, 80, 100, 1, 0, 0, 3, 0];
-    let advance = Call::Advance { group: 1 };
-    let advanced = |start: u32, end: u32| Answer::Advanced {
+/// The answer of a call that is refused.
+fn denied(fault: Fault, place: u64) -> Answer {
+    Answer::Refused(refused(fault, place))
+}
+
+/// The answer of an advance, whose sheet has 13 words here.
+fn advanced(start: u32, end: u32) -> Answer {
+    Answer::Advanced {
         start,
         end,
         first: 1,
         written: 13,
-    };
-    let calls = [
-        (
-            advance,
-            511,
-            64,
-            Answer::Refused(refused(Fault::Memory, few)),
-        ),
+    }
+}
+
+/// Calls on three models that each need 6 of 10 parts, on two workers: how many words and runs each is lent, and what it is answered.
+fn calls() -> [(Call, usize, usize, Answer); 10] {
+    let advance = Call::Advance { group: 1 };
+    let withdraw = Call::Withdraw { model: 2 };
+    let standing = Call::Standing { model: 2 };
+    let (few, short) = (Lent::Sheet.place(), Lent::Scratch.place());
+    [
+        (advance, 511, 64, denied(Fault::Memory, few)),
         (advance, 512, 64, advanced(0, 10)),
-        (
-            advance,
-            600,
-            0,
-            Answer::Refused(refused(Fault::Memory, short)),
-        ),
-        (Call::Standing { model: 2 }, 0, 0, Answer::Stands(live)),
-        (Call::Withdraw { model: 2 }, 13, 64, Answer::Withdrew),
-        (
-            Call::Withdraw { model: 2 },
-            512,
-            1,
-            Answer::Refused(refused(Fault::Withdrawn, 2)),
-        ),
-        (
-            Call::Standing { model: 2 },
-            600,
-            70,
-            Answer::Stands(idle(Doing::Withdrawn)),
-        ),
+        (advance, 600, 0, denied(Fault::Memory, short)),
+        (standing, 0, 0, Answer::Stands(live(10, 0, 0))),
+        (withdraw, 13, 64, Answer::Withdrew),
+        (withdraw, 512, 1, denied(Fault::Withdrawn, 2)),
+        (standing, 600, 70, Answer::Stands(idle(Doing::Withdrawn))),
         (advance, 600, 70, advanced(10, 20)),
-        (
-            Call::Advance { group: 2 },
-            600,
-            70,
-            Answer::Refused(refused(Fault::Group, 2)),
-        ),
+        (Call::Advance { group: 2 }, 600, 70, denied(Fault::Group, 2)),
         (
             Call::Standing { model: 4 },
             512,
             64,
-            Answer::Refused(refused(Fault::Model, 4)),
+            denied(Fault::Model, 4),
         ),
-    ];
+    ]
+}
+
+/// Whether the memory of a call begins with these words, and is else as it was lent.
+fn begins_with(entry: &Entry<'_>, words: &[u64]) -> bool {
+    entry.sheet.starts_with(words)
+        && entry
+            .sheet
+            .iter()
+            .skip(words.len())
+            .all(|word| *word == WORD)
+        && (!words.is_empty() || entry.scratch.iter().all(|run| *run == BLANK))
+}
+
+/// Each call gets its answer, and only an advance that is accepted writes into its memory.
+#[test]
+fn mixed_calls(rt: HostRuntime) -> Result<(), Fail> {
+    let calls = calls();
     let mut sheets = [[WORD; 600]; 10];
     let mut scratches = [[BLANK; 70]; 10];
     let mut entries = Vec::new(rt.alloc());
     for ((asked, sheet), scratch) in calls.iter().zip(&mut sheets).zip(&mut scratches) {
-        let (call, words, things, _) = *asked;
+        let (call, words, runs, _) = *asked;
         entries.push(Entry {
             call,
             sheet: sheet.get_mut(..words).expect(&rt, "so many words"),
-            scratch: scratch.get_mut(..things).expect(&rt, "so many runs"),
+            scratch: scratch.get_mut(..runs).expect(&rt, "so many runs"),
             answer: None,
         })?;
     }
@@ -87,20 +82,10 @@ fn mixed_calls(rt: HostRuntime) -> Result<(), Fail> {
         assert_eq!(rt; entry.answer, Some(*answer));
         let words: &[u64] = match answer {
             Answer::Advanced { start: 0, .. } => &FIRST,
-            Answer::Advanced { .. } => &pieces_idle,
+            Answer::Advanced { .. } => &PIECES_IDLE,
             _ => &[],
         };
-        assert!(rt; entry.sheet.starts_with(words));
-        assert!(rt;
-            entry
-                .sheet
-                .iter()
-                .skip(words.len())
-                .all(|word| *word == WORD)
-        );
-        if words.is_empty() {
-            assert!(rt; entry.scratch.iter().all(|run| *run == BLANK));
-        }
+        assert!(rt; begins_with(entry, words));
     }
     Ok(())
 }
