@@ -14,6 +14,7 @@ pub mod Changes
 pub mod Fits
 pub mod Sound
 pub mod Service
+pub mod Reading
 pub mod Keeps
 pub mod Kept
 pub mod Later

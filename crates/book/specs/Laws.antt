@@ -1,5 +1,5 @@
 -- The laws of every list of calls. They say in the subject's own words what the rules come to.
-use Rattle.std.specs.Prelude.{◌≡◌, ◌≢◌, ℕ, ◌+◌, ◌-◌, ◌*◌, ◌^◌, ◌<◌, ◌≤◌, ◌⊎◌, ◌↔◌, Bool, IsTrue, IsFalse, All, List, length, None, pos, ◌-ℤ◌, FitsSigned}
+use Rattle.std.specs.Prelude.{◌≡◌, ◌≢◌, ℕ, ◌+◌, ◌-◌, ◌*◌, ◌^◌, ◌<◌, ◌≤◌, ◌⊎◌, ◌↔◌, Bool, IsTrue, IsFalse, All, List, ◌++◌, length, None, pos, ◌-ℤ◌, FitsSigned}
 use Rattle.std.specs.Int.{w64}
 use Rattle.order.specs.Laws.{OrderLaws}
 use Rattle.kinds.specs.declared.runs.Run.{Run}
@@ -10,6 +10,7 @@ use Rattle.standing.specs.declared.Phase.TheVariants.{Live}
 use Rattle.standing.specs.Standings.{Report, phase_number}
 use Rattle.book.specs.Racks.{Rack, rack_of, is_divided}
 use Rattle.book.specs.Sheets.{Sheet, HasLength, workers_with, got, words_of}
+use Rattle.book.specs.Reading.{rows_in}
 use Rattle.book.specs.Books.{Book, blank, group_with, present_of, AtRest}
 use Rattle.book.specs.Calls.{Call, Advance, Withdraw, AskStanding, Answer, Advanced, Withdrew, Stands, Step, Leads, about_opening}
 
@@ -36,6 +37,10 @@ pub record FitsFields (report : Report) : Type 0 where
   pub date' : report.date < 2 ^ 32
   pub served' : report.served < 2 ^ 64
   pub lag' : FitsSigned w64 report.lag
+
+-- the words of a sheet, whatever stands behind them, are read as its rows
+abbrev pub WordsRead : Type 0
+WordsRead = (s : Sheet) (behind : List ℕ) → rows_in (words_of s ++ behind) ≡ s.rows
 
 module _ (plan : Plan) (dates : ℕ → ℕ → Bool) (precedes : Run → Run → Bool) where
   abbrev rack : Rack

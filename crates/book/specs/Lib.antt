@@ -5,4 +5,5 @@ pub mod Books
 pub mod Turns
 pub mod Calls
 pub mod Buffers
+pub mod Reading
 pub mod Laws

@@ -1,6 +1,6 @@
 //! The laws of every list of calls, each in the contract of a function that does nothing.
 //! They hold over every plan, every lawful calendar and every lawful order.
-ghost use Rattle.book.specs.Laws.{Always, OneAnswer, FairShares, OneWorker, WholeRuns, OnlyRuns, NoneWithdrawn, EndsDue, GoesOn, StandingsTell, SheetsFit, StandingsFit, SameUpToEnd};
+ghost use Rattle.book.specs.Laws.{Always, OneAnswer, FairShares, OneWorker, WholeRuns, OnlyRuns, NoneWithdrawn, EndsDue, GoesOn, StandingsTell, SheetsFit, StandingsFit, SameUpToEnd, WordsRead};
 
 /// Every list of calls has its answers, and no others.
 pub fn one_answer()
@@ -60,4 +60,9 @@ pub fn standings_fit()
 /// A sheet of an interval that has a length depends on no date of another group, and on none behind its end.
 pub fn same_up_to_end()
     ensures { Always SameUpToEnd }
+{}
+
+/// The words of a sheet, whatever stands behind them, are read as its rows.
+pub fn words_read()
+    ensures { WordsRead }
 {}

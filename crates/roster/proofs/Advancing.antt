@@ -16,7 +16,7 @@ use Rattle.book.specs.Racks.{Rack, rack_of}
 use Rattle.book.specs.Sheets.{Row, Sheet, rows_with}
 use Rattle.book.specs.Books.{Book, blank, entered, is_model_of, group_with, is_moment, AtRest}
 use Rattle.book.specs.Turns.{AreRows, IsNext}
-use Rattle.book.specs.Calls.{Advance, Advanced, Refused, advances, rests, about, no_moment, is_group}
+use Rattle.book.specs.Calls.{Step, Advance, Advanced, Refused, advances, rests, about, no_moment, is_group}
 use Rattle.book.specs.Laws.{Lawful}
 use Rattle.book.proofs.Sums.{total_none}
 use Rattle.book.proofs.Racks.{within_both, rack_of-IsRack}
@@ -29,7 +29,8 @@ use Rattle.roster.specs.declared.event.Event.TheVariants.{Date, Service}
 use Rattle.roster.specs.declared.record.Record.{Record}
 use Rattle.roster.specs.Records.{met, phase_at}
 use Rattle.roster.specs.Telling.{phase_of, IsBook}
-use Rattle.roster.specs.Keeping.{IsBookOf, StepOf, Keeps, Advances}
+use Rattle.roster.proofs.Keeping.{keeps_so}
+use Rattle.roster.specs.Keeping.{IsBookOf, Keeps, Advances}
 use Rattle.roster.specs.Advancing.{Served, rows_give, Settled, settled}
 use Rattle.roster.specs.Coming.{dates_in}
 use Rattle.roster.specs.declared.group.Group.{Group}
@@ -120,16 +121,13 @@ module _ {C O : Type 0} {calendar : CalendarMeaning C} {order : OrderMeaning O R
 
     pub advance_rests : about (rack_of x.plan.now) blank (Advance g (length words) (length scratch)) ≡ None → told e ≡ no_moment (rack_of x.plan.now) g
         → ((b : Book) → IsBookOf x b → AtRest (rack_of x.plan.now) (calendar.dates x.calendar.now) b g) → Keeps x (Advance g (length words) (length scratch)) (Advances (Err e) words words scratch scratch) x
-    advance_rests fine is none = record {
-      over = record { plan' = refl; calendar' = refl; order' = refl };
-      goes = λ b tells. record {
-        answer = Refused (told e);
-        after = b;
-        step = subst (λ a. StepOf x b (Advance g (length words) (length scratch)) (Refused a) b) (sym is) (rests g (length words) (length scratch) fine (none b tells));
-        gives' = refused_so;
-        is = tells;
-      };
-    }
+    advance_rests fine is none = keeps_so refl refl refl (λ b tells. record {
+      answer = Refused (told e);
+      after = b;
+      step = subst (λ a. Step (rack_of x.plan.now) (calendar.dates x.calendar.now) (order.precedes x.order.now) b (Advance g (length words) (length scratch)) (Refused a) b) (sym is) (rests g (length words) (length scratch) fine (none b tells));
+      gives' = refused_so;
+      is = tells;
+    })
 
   module _ (x : Roster C O calendar order thing) (spacings : ℕ → ℕ) (lawful : Lawful x.plan.now (calendar.dates x.calendar.now) spacings (order.precedes x.order.now))
       (group : Group) (is : IsGroupOf x group) (end words things : ℕ) (rows : List Row) (mid new : List Record)
@@ -151,7 +149,7 @@ module _ {C O : Type 0} {calendar : CalendarMeaning C} {order : OrderMeaning O R
     pub advanced : Served (rows_give rows) x.models.records mid → (table : List (Option ℕ)) → ComesTo x g table → Settled group.plan.now (dates_in table) g end mid new
         → (b : Book) → IsBookOf x b → Earliest (is_moment (rack_of x.plan.now) (calendar.dates x.calendar.now) b g) (b.present g + 1) end
         → AreRows (rack_of x.plan.now) (calendar.dates x.calendar.now) (order.precedes x.order.now) b (end - slice_index x.presents (g - 1)) group.workers.first rows
-        → StepOf x b (Advance g words things) (Advanced sheet) (entered b sheet)
+        → Step (rack_of x.plan.now) (calendar.dates x.calendar.now) (order.precedes x.order.now) b (Advance g words things) (Advanced sheet) (entered b sheet)
         × IsBook x.plan.now (calendar.dates x.calendar.now) (order.precedes x.order.now) (slice_set x.presents (g - 1) end) (slice_set x.mirrored (g - 1) (not (slice_index_or x.mirrored (g - 1) false))) new (entered b sheet)
     advanced served table comes settles b tells moment are =
         let here = is_group_of x group is in

@@ -4,6 +4,7 @@ pub mod Checking
 pub mod Dividing
 pub mod Due
 pub mod Filling
+pub mod Keeping
 pub mod Lineups
 pub mod Opening
 pub mod Parts

@@ -22,7 +22,7 @@ use Rattle.standing.specs.declared.Phase.TheVariants as answer
 use Rattle.standing.specs.Standings.{Report, phase_number, reported}
 use Rattle.book.specs.Racks.{Rack, rack_of}
 use Rattle.book.specs.Books.{Book, is_model_of, group_with, present_of, is_live, date_of, served}
-use Rattle.book.specs.Calls.{AskStanding, Stands, stands, about, is_group, quiet, standing_of, about_opening}
+use Rattle.book.specs.Calls.{Step, AskStanding, Stands, stands, about, is_group, quiet, standing_of, about_opening}
 use Rattle.book.specs.Laws.{Lawful}
 use Rattle.book.proofs.Sums.{latest_le, total_le_all}
 use Rattle.book.proofs.Racks.{within_both, rack_of-IsRack}
@@ -34,7 +34,8 @@ use Rattle.roster.specs.declared.Roster.{Roster}
 use Rattle.roster.specs.Records.{phase_at, date_in, served_in}
 use Rattle.roster.specs.Reports.{report_of}
 use Rattle.roster.specs.Telling.{IsBook}
-use Rattle.roster.specs.Keeping.{IsBookOf, StepOf, Keeps}
+use Rattle.roster.proofs.Keeping.{keeps_so}
+use Rattle.roster.specs.Keeping.{IsBookOf, Keeps}
 
 worker_last : (x : Pieces) → worker_of x ≤ last_of x
 worker_last (Whole worker size) = omega arith
@@ -130,13 +131,10 @@ module _ {C O : Type 0} {calendar : CalendarMeaning C} {order : OrderMeaning O R
   pub stood : (x : Roster C O calendar order thing) (i : ℕ) (standing : Standing)
       → ((b : Book) → IsBookOf x b → (about (rack_of x.plan.now) b (AskStanding i) ≡ None) × (reported standing ≡ standing_of (rack_of x.plan.now) (calendar.dates x.calendar.now) b i))
       → Keeps x (AskStanding i) (λ answer. answer ≡ Stands (reported standing)) x
-  stood x i standing why = record {
-    over = record { plan' = refl; calendar' = refl; order' = refl };
-    goes = λ b tells. let h = why b tells in record {
-      answer = Stands (reported standing);
-      after = b;
-      step = subst (λ (s : Report). StepOf x b (AskStanding i) (Stands s) b) (sym h.1) (stands i h.0);
-      gives' = refl;
-      is = tells;
-    };
-  }
+  stood x i standing why = keeps_so refl refl refl (λ b tells. let h = why b tells in record {
+    answer = Stands (reported standing);
+    after = b;
+    step = subst (λ (s : Report). Step (rack_of x.plan.now) (calendar.dates x.calendar.now) (order.precedes x.order.now) b (AskStanding i) (Stands s) b) (sym h.1) (stands i h.0);
+    gives' = refl;
+    is = tells;
+  })

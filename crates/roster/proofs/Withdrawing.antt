@@ -23,6 +23,7 @@ use Rattle.calendar.specs.declared.Calendar.{Ghosts as CalendarMeaning}
 use Rattle.order.specs.declared.Order.{Ghosts as OrderMeaning}
 use Rattle.order.specs.declared.Thing.{Ghosts as ThingMeaning}
 use Rattle.roster.specs.declared.Roster.{Roster}
+use Rattle.roster.proofs.Keeping.{keeps_so}
 use Rattle.roster.specs.Keeping.{IsBookOf, Keeps}
 use Rattle.roster.specs.Telling.{phase_of, IsBook}
 
@@ -86,7 +87,4 @@ module _ {plan : Plan} {dates : ℕ → ℕ → Bool} {precedes : Run → Run �
 
 module _ {C O : Type 0} {calendar : CalendarMeaning C} {order : OrderMeaning O Run} {thing : ThingMeaning Run} where
   pub refused : (x : Roster C O calendar order thing) (call : Call) (e : Refusal) → ((b : Book) → IsBookOf x b → about (rack_of x.plan.now) b call ≡ Some (told e)) → (gives : Answer → Type 0) → gives (Refused (told e)) → Keeps x call gives x
-  refused x call e why gives is = record {
-    over = record { plan' = refl; calendar' = refl; order' = refl };
-    goes = λ b tells. record { answer = Refused (told e); after = b; step = declines call (told e) (why b tells); gives' = is; is = tells };
-  }
+  refused x call e why gives is = keeps_so refl refl refl (λ b tells. record { answer = Refused (told e); after = b; step = declines call (told e) (why b tells); gives' = is; is = tells })

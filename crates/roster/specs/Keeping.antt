@@ -7,6 +7,7 @@ use Rattle.order.specs.declared.Thing.{Ghosts as ThingMeaning}
 use Rattle.refusal.specs.Refusals.{told}
 use Rattle.refusal.specs.declared.Refusal.{Refusal}
 use Rattle.book.specs.Racks.{rack_of}
+use Rattle.book.specs.Sheets.{Sheet}
 use Rattle.plan.specs.declared.plans.Plan.{Plan}
 use Rattle.book.specs.Books.{Book, blank}
 use Rattle.book.specs.Calls.{Call, Advance, Answer, Advanced, Refused, Step, numbers_of}
@@ -23,10 +24,9 @@ Agrees agrees (Err refusal) answer = answer ≡ Refused (told refusal)
 abbrev pub advance_of : ℕ → List ℕ → List Run → Call
 advance_of g words scratch = Advance g (length words) (length scratch)
 
--- the four numbers are those of the answer's sheet
+-- there is a sheet in the answer, and these are its four numbers
 abbrev pub AreNumbers : ℕ × ℕ × ℕ × ℕ → Answer → Type 0
-AreNumbers numbers (Advanced s) = numbers ≡ numbers_of s
-AreNumbers numbers _ = ⊥
+AreNumbers numbers answer = (s : Sheet) × ((answer ≡ Advanced s) × (numbers ≡ numbers_of s))
 
 -- what an advance gave agrees with the book's answer, and so does what it left in the memory that it was lent
 pub record Advances (result : Result (ℕ × ℕ × ℕ × ℕ) Refusal) (words words' : List ℕ) (scratch scratch' : List Run) (answer : Answer) : Type 0 where
@@ -38,32 +38,25 @@ module _ {C O : Type 0} {calendar : CalendarMeaning C} {order : OrderMeaning O R
   abbrev pub IsBookOf : Roster C O calendar order thing → Book → Type 0
   IsBookOf r = IsBook r.plan.now (calendar.dates r.calendar.now) (order.precedes r.order.now) r.presents r.mirrored r.models.records
 
-  -- a call at a book of this roster
-  abbrev pub StepOf : Roster C O calendar order thing → Book → Call → Answer → Book → Type 0
-  StepOf r = Step (rack_of r.plan.now) (calendar.dates r.calendar.now) (order.precedes r.order.now)
+  -- x is over this plan, this calendar and this order, and b is one of its books
+  pub record At (plan : Plan) (c : C) (o : O) (x : Roster C O calendar order thing) (b : Book) : Type 0 where
+    pub plan' : x.plan.now ≡ plan
+    pub calendar' : x.calendar.now ≡ c
+    pub order' : x.order.now ≡ o
+    pub is : IsBookOf x b
 
-  -- it is over the same plan, calendar and order
-  pub record SameOver (x y : Roster C O calendar order thing) : Type 0 where
-    pub plan' : y.plan.now ≡ x.plan.now
-    pub calendar' : y.calendar.now ≡ x.calendar.now
-    pub order' : y.order.now ≡ x.order.now
+  -- a roster over these on which nothing was called
+  abbrev pub Opened : Plan → C → O → Roster C O calendar order thing → Type 0
+  Opened plan c o x = At plan c o x blank
 
   -- a call at the book b: the book's answer, of which `gives` holds, and the book after it, which is one of y
-  pub record Goes (x : Roster C O calendar order thing) (call : Call) (gives : Answer → Type 0) (y : Roster C O calendar order thing) (b : Book) : Type 0 where
+  pub record Goes (plan : Plan) (c : C) (o : O) (b : Book) (call : Call) (gives : Answer → Type 0) (y : Roster C O calendar order thing) : Type 0 where
     pub answer : Answer
     pub after : Book
-    pub step : StepOf x b call answer after
+    pub step : Step (rack_of plan) (calendar.dates c) (order.precedes o) b call answer after
     pub gives' : gives answer
-    pub is : IsBookOf y after
+    pub at : At plan c o y after
 
-  -- from x to y by a call, at whatever book of x; that there is one is a fact of the type
+  -- from x to y by a call, at whatever book of x; that x has one is a fact of its type
   pub record Keeps (x : Roster C O calendar order thing) (call : Call) (gives : Answer → Type 0) (y : Roster C O calendar order thing) : Type 0 where
-    pub over : SameOver x y
-    pub goes : (b : Book) → IsBookOf x b → Goes x call gives y b
-
-  -- over these, and nothing was called yet
-  pub record Opened (plan : Plan) (c : C) (o : O) (r : Roster C O calendar order thing) : Type 0 where
-    pub plan' : r.plan.now ≡ plan
-    pub calendar' : r.calendar.now ≡ c
-    pub order' : r.order.now ≡ o
-    pub blank' : IsBookOf r blank
+    pub goes : {plan : Plan} {c : C} {o : O} {b : Book} → At plan c o x b → Goes plan c o b call gives y

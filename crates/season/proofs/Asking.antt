@@ -15,10 +15,7 @@ use Rattle.season.specs.declared.answer.Answer.TheVariants as answer
 use Rattle.season.specs.Asking.{IsAnswer, Gives, advanced, withdrew, stands, refused}
 
 pub says_advanced : (start end first written : ℕ) (given : Given) → AreNumbers (start, end, first, written) given → IsAnswer (answer.Advanced start end first written) given
-says_advanced start end first written (Advanced s) is = advanced start end first written s is
-says_advanced start end first written Withdrew is = absurd is
-says_advanced start end first written (Stands report) is = absurd is
-says_advanced start end first written (Refused complaint) is = absurd is
+says_advanced start end first written given is = rw is.1.0 (advanced start end first written is.0 is.1.1)
 
 pub says_refused : (e : Refusal) (given : Given) → given ≡ Refused (told e) → IsAnswer (answer.Refused e) given
 says_refused e given is = subst (λ (a : Given). IsAnswer (answer.Refused e) a) (sym is) (refused e (told e) refl)
@@ -38,6 +35,5 @@ module _ {C O : Type 0} {calendar : CalendarMeaning C} {order : OrderMeaning O R
   -- what is said of an answer may be said otherwise
   pub keeps_as : (x y : Roster C O calendar order thing) (call : Call) (P Q : Given → Type 0) → ((given : Given) → P given → Q given) → Keeps x call P y → Keeps x call Q y
   keeps_as x y call P Q turn keeps = record {
-    over = keeps.over;
-    goes = λ b tells. let w = keeps.goes b tells in record { answer = w.answer; after = w.after; step = w.step; gives' = turn w.answer w.gives'; is = w.is };
+    goes = λ at. let w = keeps.goes at in record { answer = w.answer; after = w.after; step = w.step; gives' = turn w.answer w.gives'; at = w.at };
   }

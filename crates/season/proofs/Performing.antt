@@ -14,7 +14,7 @@ use Rattle.book.specs.Laws.{Lawful}
 use Rattle.book.proofs.Keeps.{leads_more}
 use Rattle.book.proofs.Once.{leads_once}
 use Rattle.roster.specs.declared.Roster.{Roster}
-use Rattle.roster.specs.Keeping.{IsBookOf, StepOf, Keeps, Opened}
+use Rattle.roster.specs.Keeping.{At, Keeps, Opened}
 use Rattle.season.specs.declared.entry.Entry.{Entry}
 use Rattle.season.specs.Performing.{asked_by, Holds, Hold, hold_none, hold_more, Performed}
 use Rattle.season.proofs.Reading.{held_all}
@@ -27,25 +27,16 @@ hold_on _ _ _ old new given (hold_more a c b olds news givens one others) last =
     hold_more a c b (olds ++ old ∷ []) (news ++ new ∷ []) (givens ++ given ∷ []) one (hold_on olds news givens old new given others last)
 
 module _ {C O : Type 0} {calendar : CalendarMeaning C} {order : OrderMeaning O Run} {thing : ThingMeaning Run} (plan : Plan) (c : C) (o : O) where
-  -- entries have the book's answers, and the roster tells the book after them
+  -- entries have the book's answers, and the roster is at the book after them
   pub record Told (olds news : List Entry) (x : Roster C O calendar order thing) : Type 0 where
-    pub plan' : x.plan.now ≡ plan
-    pub calendar' : x.calendar.now ≡ c
-    pub order' : x.order.now ≡ o
     pub givens : List Given
     pub book : Book
     pub led : Leads (rack_of plan) (calendar.dates c) (order.precedes o) blank (map asked_by olds) givens book
-    pub tells : IsBookOf x book
+    pub at : At plan c o x book
     pub hold : Hold olds givens news
 
   pub told_none : (x : Roster C O calendar order thing) → Opened plan c o x → Told [] [] x
-  told_none x opened = record { plan' = opened.plan'; calendar' = opened.calendar'; order' = opened.order'; givens = []; book = blank; led = ends blank; tells = opened.blank'; hold = hold_none }
-
-  step_over : (x : Roster C O calendar order thing) → x.plan.now ≡ plan → x.calendar.now ≡ c → x.order.now ≡ o → (b e : Book) (asked : Asked) (given : Given) → StepOf x b asked given e → Step (rack_of plan) (calendar.dates c) (order.precedes o) b asked given e
-  step_over x p q r b e asked given step =
-      subst (λ (o : O). Step (rack_of plan) (calendar.dates c) (order.precedes o) b asked given e) r
-      (subst (λ (c : C). Step (rack_of plan) (calendar.dates c) (order.precedes x.order.now) b asked given e) q
-      (subst (λ (p : Plan). Step (rack_of p) (calendar.dates x.calendar.now) (order.precedes x.order.now) b asked given e) p step))
+  told_none x opened = record { givens = []; book = blank; led = ends blank; at = opened; hold = hold_none }
 
   pub told_more : (olds news : List Entry) (x y : Roster C O calendar order thing) (k : ℕ) (d new : Entry) → k < length olds → length news ≡ length olds → drop k news ≡ drop k olds
       → Told (take k olds) (take k news) x → Keeps x (asked_by (get_or news k d)) (λ given. Holds (get_or news k d) given new) y → Told (take (k + 1) olds) (take (k + 1) (set news k new)) y
@@ -53,20 +44,16 @@ module _ {C O : Type 0} {calendar : CalendarMeaning C} {order : OrderMeaning O R
       let old = get_or olds k d in
       let plus : k + 0 ≡ k = omega arith in
       let same : get_or news k d ≡ old = subst (λ j. get_or news j d ≡ get_or olds j d) plus (sym (get_or-drop k news 0 d) ∙ ap (λ (es : List Entry). get_or es 0 d) rest ∙ get_or-drop k olds 0 d) in
-      let w = performs.goes told.book told.tells in
-      let step = step_over x told.plan' told.calendar' told.order' told.book w.after (asked_by (get_or news k d)) w.answer w.step in
-      let led = leads_more told.led (subst (λ (en : Entry). Step (rack_of plan) (calendar.dates c) (order.precedes o) told.book (asked_by en) w.answer w.after) same step) in
+      let w = performs.goes told.at in
+      let led = leads_more told.led (subst (λ (en : Entry). Step (rack_of plan) (calendar.dates c) (order.precedes o) told.book (asked_by en) w.answer w.after) same w.step) in
       let hold = hold_on (take k olds) (take k news) told.givens old new w.answer told.hold (subst (λ (en : Entry). Holds en w.answer new) same w.gives') in
       let front : take (k + 1) olds ≡ take k olds ++ old ∷ [] = take_more olds k d l in
       let calls : map asked_by (take k olds) ++ asked_by old ∷ [] ≡ map asked_by (take (k + 1) olds) = sym (ap (map asked_by) front ∙ map-append asked_by (take k olds) (old ∷ [])) in
       record {
-        plan' = performs.over.plan' ∙ told.plan';
-        calendar' = performs.over.calendar' ∙ told.calendar';
-        order' = performs.over.order' ∙ told.order';
         givens = told.givens ++ w.answer ∷ [];
         book = w.after;
         led = subst (λ (cs : List Asked). Leads (rack_of plan) (calendar.dates c) (order.precedes o) blank cs (told.givens ++ w.answer ∷ []) w.after) calls led;
-        tells = w.is;
+        at = w.at;
         hold = subst (λ (ns : List Entry). Hold (take (k + 1) olds) (told.givens ++ w.answer ∷ []) ns) (sym (take_more_set news k new (omega arith))) (subst (λ (os : List Entry). Hold os (told.givens ++ w.answer ∷ []) (take k news ++ new ∷ [])) (sym front) hold);
       }
 

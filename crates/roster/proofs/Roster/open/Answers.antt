@@ -18,4 +18,4 @@ invariant_of-result g c =
 
 pub returns : goal.returns
 returns g c =
-    (c.in_ok-check.ensures.0, record { plan' = refl; calendar' = refl; order' = refl; blank' = opened_says c.args.plan.now (g.C.Calendar.dates c.args.calendar.now) (g.O.Order.precedes c.args.order.now) _ c.start.ensures })
+    (c.in_ok-check.ensures.0, record { plan' = refl; calendar' = refl; order' = refl; is = opened_says c.args.plan.now (g.C.Calendar.dates c.args.calendar.now) (g.O.Order.precedes c.args.order.now) _ c.start.ensures })

@@ -6,6 +6,7 @@ use Rattle.book.specs.Books.{without}
 use Rattle.book.specs.Calls.{Withdrew, withdraws}
 use Rattle.roster.specs.Records.{met, phase_at, altered}
 use Rattle.roster.specs.declared.event.Event.TheVariants.{Withdrawal}
+use Rattle.roster.proofs.Keeping.{keeps_so}
 use Rattle.roster.proofs.Withdrawing.{has_model, no_model, about_none, about_gone, about_kept, phase_gone, phase_kept, withdrawn_says, refused}
 use Rattle.roster.proofs.Roster.withdraw.Goals as goal
 
@@ -49,12 +50,9 @@ returns g c =
     let model = has_model x.plan.now c.args.model some.0 in
     let is = c.meet.ensures ∙ ap (λ k. altered x.models.records k (λ p. met p Withdrawal)) some.1 in
     record {
-      keeps = record {
-        over = record { plan' = refl; calendar' = refl; order' = refl };
-        goes = λ b tells.
+      keeps = keeps_so refl refl refl (λ b tells.
             let kept = phase_kept (rack_of x.plan.now) dates b _ (λ gone. c.in_default-phase.not-Withdrawn (c.phase.ensures ∙ ap (phase_at x.models.records) some.1 ∙ tells.phases _ model ∙ gone)) in
             let fine = about_kept (rack_of x.plan.now) dates b _ model kept in
-            record { answer = Withdrew; after = without b c.args.model; step = withdraws c.args.model fine; gives' = refl; is = withdrawn_says x.models.records _ b _ tells x.models.full model fine is };
-      };
+            record { answer = Withdrew; after = without b c.args.model; step = withdraws c.args.model fine; gives' = refl; is = withdrawn_says x.models.records _ b _ tells x.models.full model fine is });
       unchanged = tt;
     }
