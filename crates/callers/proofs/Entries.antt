@@ -15,7 +15,8 @@ use Rattle.season.specs.declared.answer.Answer.{Answer}
 use Rattle.season.specs.declared.answer.Answer.TheVariants as answer
 use Rattle.season.specs.declared.entry.Entry.{Entry}
 use Rattle.season.specs.Asking.{asked, IsAnswer}
-use Rattle.season.specs.Reading.{rows_in, sheet_in, sheets_in}
+use Rattle.book.specs.Reading.{rows_in}
+use Rattle.season.specs.Reading.{sheet_in, sheets_in}
 use Rattle.season.specs.Serving.{taken_to, withdrew, InUse, HoldsSheet, Serves}
 use Rattle.season.specs.Performing.{asked_by, Holds, Performed, Hold, hold_none, hold_more}
 use Rattle.callers.specs.declared.Interval.{Interval}
@@ -77,7 +78,7 @@ module _ (plan : Plan) (dates : ℕ → ℕ → Bool) (before after : ℕ) (v x 
 
   arrives : (t : ℕ) → EndsAt t kept.second → taken_to 1 0 (sheets_in (take 3 entries)) ≡ t
   arrives t (start, first, written, is) =
-      let s : Sheet = record { group = 1; start = start; end = t; first = first; rows = rows_in (take written kept.second.words) } in
+      let s : Sheet = record { group = 1; start = start; end = t; first = first; rows = rows_in kept.second.words } in
       let reads = two ∙ ap (λ (a : Answer). sheet_in (call.Advance 1) (Some a) kept.second.words) is in
       rw (no_sheet v before p.asks_first, reads) (last_end (sheet_in x.call x.answer x.sheet.now) 0 s refl)
 
@@ -85,7 +86,7 @@ module _ (plan : Plan) (dates : ℕ → ℕ → Bool) (before after : ℕ) (v x 
   knows precedes told = record {
     told = told;
     shared = λ t (start, first, written, is) i b divided.
-        let s : Sheet = record { group = 1; start = start; end = t; first = first; rows = rows_in (take written kept.first.words) } in
+        let s : Sheet = record { group = 1; start = start; end = t; first = first; rows = rows_in kept.first.words } in
         let reads = one ∙ ap (λ (a : Answer). sheet_in (call.Advance 1) (Some a) kept.first.words) is in
         let holds : HoldsSheet plan dates entries 1 s = record { entry = x; there = refl; reads = reads } in
         let begins : start ≡ 0 = (p.serves.joins 1 s holds).0 ∙ ap (λ (ss : List Sheet). taken_to 1 0 (ss ++ [])) (no_sheet v before p.asks_first) in
@@ -105,16 +106,6 @@ module _ (plan : Plan) (dates : ℕ → ℕ → Bool) (before after : ℕ) (v x 
   }
 
 -- an entry that was performed is answered, and its sheet is as long as it was
-pub answered_at : {olds news : List Entry} {givens : List Given} → Hold olds givens news → (k : ℕ) (d : Entry) → k < length olds → IsSome (slice_index_or news k d).answer
-answered_at hold_none k d l = absurd (omega (arith, l))
-answered_at (hold_more _ _ _ _ _ _ met others) zero d l = rw met.answer' refl
-answered_at (hold_more _ _ _ _ _ _ met others) (suc k) d l = answered_at others k d (omega (arith, l))
-
-pub long_at : {olds news : List Entry} {givens : List Given} → Hold olds givens news → (k : ℕ) (d : Entry) → length (slice_index_or news k d).sheet.now ≡ length (slice_index_or olds k d).sheet.now
-long_at hold_none k d = refl
-long_at (hold_more _ _ _ _ _ _ met others) zero d = met.long.0
-long_at (hold_more _ _ _ _ _ _ met others) (suc k) d = long_at others k d
-
 -- what is asked by an entry tells its call
 asks_withdrawal : (c : Call) (words : List ℕ) (things : List Run) (i : ℕ) → asked c words things ≡ Withdraw i → c ≡ call.Withdraw i
 asks_withdrawal (call.Withdraw j) words things i is = cc

@@ -15,7 +15,7 @@ use season::{Answer, Call, Entry, perform};
 
 /// Withdraws one model, has group 1 go two intervals from tick 0, and then withdraws another.
 /// Refused as the opening is.
-#[tactic(auto, using(crate::proofs::Entries::answered_at, crate::proofs::Entries::long_at))]
+#[tactic(auto, using(season::proofs::Performing::answered_at, season::proofs::Performing::long_at))]
 pub fn two_intervals<C: Calendar, O: Order<Item = Run>>(
     plan: &Plan,
     calendar: &C,
@@ -31,10 +31,10 @@ pub fn two_intervals<C: Calendar, O: Order<Item = Run>>(
     let mut later_scratch = [NO_RUN; 64];
     let advance = Call::Advance { group: 1 };
     let mut entries = [
-        entry(Call::Withdraw { model: before }, &mut [], &mut []),
-        entry(advance, &mut sheet, &mut scratch),
-        entry(advance, &mut later_sheet, &mut later_scratch),
-        entry(Call::Withdraw { model: after }, &mut [], &mut []),
+        Entry::new(Call::Withdraw { model: before }, &mut [], &mut []),
+        Entry::new(advance, &mut sheet, &mut scratch),
+        Entry::new(advance, &mut later_sheet, &mut later_scratch),
+        Entry::new(Call::Withdraw { model: after }, &mut [], &mut []),
     ];
     perform(plan, calendar, order, &mut entries)?;
     Ok(Kept {
@@ -43,20 +43,6 @@ pub fn two_intervals<C: Calendar, O: Order<Item = Run>>(
         second: interval(&entries[2]),
         last_withdrawal: answer(&entries[3]),
     })
-}
-
-/// An entry with a call that is still to be made.
-fn entry<'a>(call: Call, sheet: &'a mut [u64], scratch: &'a mut [Run]) -> Entry<'a>
-    ensures call { result.call ≡ call }
-    ensures words { length result.sheet.now ≡ length sheet.old }
-    ensures things { length result.scratch.now ≡ length scratch.old }
-{
-    Entry {
-        call,
-        sheet,
-        scratch,
-        answer: None,
-    }
 }
 
 /// The answer of an entry whose call was made.

@@ -1,5 +1,5 @@
 -- What a whole list of calls comes to.
-use Rattle.std.proofs.Common.{◌≡◌, ℕ, ◌+◌, ◌<◌, ◌≤◌, List, [], ◌∷◌, ◌++◌, length, map, take, drop, get_or, sym, ap, ◌∙◌, subst, arith}
+use Rattle.std.proofs.Common.{◌≡◌, ℕ, zero, suc, refl, IsSome, ◌+◌, ◌<◌, ◌≤◌, List, [], ◌∷◌, ◌++◌, length, map, take, drop, get_or, sym, ap, ◌∙◌, subst, arith}
 use Rattle.std.proofs.lemmas.List.{take_more, take_more_set, take_all, map-append, get_or-drop}
 use Rattle.std.proofs.Math.ListN.{set}
 use Rattle.kinds.specs.declared.runs.Run.{Run}
@@ -25,6 +25,17 @@ hold_on : (olds news : List Entry) (givens : List Given) (old new : Entry) (give
 hold_on _ _ _ old new given hold_none last = hold_more old new given [] [] [] last hold_none
 hold_on _ _ _ old new given (hold_more a c b olds news givens one others) last =
     hold_more a c b (olds ++ old ∷ []) (news ++ new ∷ []) (givens ++ given ∷ []) one (hold_on olds news givens old new given others last)
+
+-- each entry is answered, and its words are as many as before
+pub answered_at : {olds news : List Entry} {givens : List Given} → Hold olds givens news → (k : ℕ) (d : Entry) → k < length olds → IsSome (get_or news k d).answer
+answered_at hold_none k d l = absurd (omega (arith, l))
+answered_at (hold_more _ _ _ _ _ _ met others) zero d l = rw met.answer' refl
+answered_at (hold_more _ _ _ _ _ _ met others) (suc k) d l = answered_at others k d (omega (arith, l))
+
+pub long_at : {olds news : List Entry} {givens : List Given} → Hold olds givens news → (k : ℕ) (d : Entry) → length (get_or news k d).sheet.now ≡ length (get_or olds k d).sheet.now
+long_at hold_none k d = refl
+long_at (hold_more _ _ _ _ _ _ met others) zero d = met.long.0
+long_at (hold_more _ _ _ _ _ _ met others) (suc k) d = long_at others k d
 
 module _ {C O : Type 0} {calendar : CalendarMeaning C} {order : OrderMeaning O Run} {thing : ThingMeaning Run} (plan : Plan) (c : C) (o : O) where
   -- entries have the book's answers, and the roster is at the book after them

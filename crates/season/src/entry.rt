@@ -1,6 +1,7 @@
 //! An entry of a list of calls.
-ghost use Rattle.std.specs.Prelude.{◌≡◌};
+ghost use Rattle.std.specs.Prelude.{◌≡◌, None};
 ghost use Rattle.roster.specs.Keeping.{Keeps};
+ghost use Rattle.season.specs.Asking.{asked};
 ghost use Rattle.season.specs.Performing.{asked_by, Holds};
 
 use crate::answer::Answer;
@@ -18,6 +19,23 @@ pub struct Entry<'a> {
     pub sheet: &'a mut [u64],
     pub scratch: &'a mut [Run],
     pub answer: Option<Answer>,
+}
+
+impl<'a> Entry<'a> {
+    /// A call that is still to be made, with memory lent for it.
+    pub fn new(call: Call, sheet: &'a mut [u64], scratch: &'a mut [Run]) -> Entry<'a>
+        ensures call { result.call ≡ call }
+        ensures asks { asked_by result ≡ asked call sheet.old scratch.old }
+        ensures holds { (result.sheet.now ≡ sheet.old) × (result.scratch.now ≡ scratch.old) }
+        ensures unanswered { result.answer ≡ None }
+    {
+        Entry {
+            call,
+            sheet,
+            scratch,
+            answer: None,
+        }
+    }
 }
 
 impl Entry<'_> {
