@@ -1,15 +1,19 @@
 """Writes what the programs are run on in the gate, and what they must print.
 
 crates/cases has many set files in hexadecimal; crates/print has one that goes on for a megabyte; crates/served has
-lists of calls on queues; crates/dated has calendars that are asked; crates/timed has agendas that tools/bench times;
-crates/played has seasons. Run it at the repository's root. What is expected comes from tools/reference.py,
-tools/queue_reference.py, tools/calendar_reference.py and tools/roster_reference.py, never from the proved programs.
+lists of calls on queues; crates/dated has calendars that are asked; crates/played has seasons; crates/timed has
+agendas and crates/paced has rosters that tools/bench times. Run it at the repository's root. What is expected comes
+from tools/reference.py, tools/queue_reference.py, tools/calendar_reference.py and tools/roster_reference.py, and for
+crates/paced from tools/bench/dispatch.rs, which rustc builds; never from the proved programs.
 """
 import random
 import struct
 from itertools import product
+from pathlib import Path
+from tempfile import TemporaryDirectory
 
-from bench.jobs import JOBS, count_of, line_of
+from bench.jobs import AGENDAS, ROSTERS, count_of, line_of
+from bench.programs import answers_of, build_plain
 from calendar_reference import END, answer_of as calendar_answer_of, checksum_of
 from queue_reference import KEYS, answer_of
 from reference import text_of
@@ -233,6 +237,14 @@ def drawn_calendar(source, table, layers):
     return f"{text} ? spacing {models[0]} ? agenda {start},{start + source.choice([1, 20, 40])} {source.choice([2, 10, 20, 40])},64"
 
 
+def dispatched(text):
+    """What the dispatcher in plain Rust answers to lines that name rosters."""
+    with TemporaryDirectory() as folder:
+        program = Path(folder) / "dispatch"
+        build_plain("dispatch", program)
+        return answers_of(program, text)
+
+
 def main():
     files = [*worked(), *damaged(), *drawn(random.Random(2026), 200)]
     with open("crates/cases/stdin", "w") as stdin:
@@ -264,11 +276,16 @@ def main():
         stdin.writelines(line + "\n" for line in lines)
     with open("crates/played/stdout", "w") as stdout:
         stdout.writelines(map(season_answer_of, lines))
-    jobs = [(end, phases) for _, end, phases in JOBS if count_of(end, phases) < 5_000]
+    jobs = [(end, phases) for _, end, phases in AGENDAS if count_of(end, phases) < 5_000]
     with open("crates/timed/stdin", "w") as stdin:
         stdin.writelines(line_of(*job) + "\n" for job in jobs)
     with open("crates/timed/stdout", "w") as stdout:
         stdout.writelines(checksum_of(*job) for job in jobs)
+    text = "".join(f"{plan} {way} 1000\n" for plan, way, _, _ in ROSTERS)
+    with open("crates/paced/stdin", "w") as stdin:
+        stdin.write(text)
+    with open("crates/paced/stdout", "w") as stdout:
+        stdout.write(dispatched(text))
 
 
 if __name__ == "__main__":
