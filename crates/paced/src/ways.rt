@@ -60,12 +60,7 @@ impl Job {
         let mut entries = Vec::with_capacity(heap, times as usize)?;
         let lent = words.chunks_mut(WORDS).zip(runs.chunks_mut(RUNS));
         for (number, (sheet, scratch)) in (0..times).zip(lent) {
-            entries.push(Entry {
-                call: self.call(number),
-                sheet,
-                scratch,
-                answer: None,
-            })?;
+            entries.push(Entry::new(self.call(number), sheet, scratch))?;
         }
         season::perform(&self.plan, &self.calendar, &ByModel, &mut entries)?;
         let mut sum = Checksum::default();

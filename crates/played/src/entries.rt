@@ -33,12 +33,7 @@ pub(crate) struct Lent {
 impl Lent {
     /// The entry of the call, in a list that is not performed yet.
     pub(crate) fn entry(&mut self) -> Entry<'_> {
-        Entry {
-            call: self.call,
-            sheet: &mut self.sheet,
-            scratch: &mut self.scratch,
-            answer: None,
-        }
+        Entry::new(self.call, &mut self.sheet, &mut self.scratch)
     }
 }
 

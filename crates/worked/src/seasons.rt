@@ -69,12 +69,9 @@ fn mixed_calls(rt: HostRuntime) -> Result<(), Fail> {
     let mut entries = Vec::new(rt.alloc());
     for ((asked, sheet), scratch) in calls.iter().zip(&mut sheets).zip(&mut scratches) {
         let (call, words, runs, _) = *asked;
-        entries.push(Entry {
-            call,
-            sheet: sheet.get_mut(..words).expect(&rt, "so many words"),
-            scratch: scratch.get_mut(..runs).expect(&rt, "so many runs"),
-            answer: None,
-        })?;
+        let sheet = sheet.get_mut(..words).expect(&rt, "so many words");
+        let scratch = scratch.get_mut(..runs).expect(&rt, "so many runs");
+        entries.push(Entry::new(call, sheet, scratch))?;
     }
     let plan = placed(2, 2, 10, &[6; 3])?;
     perform(&plan, &EVERY_TEN, &ByModel, &mut entries)?;
@@ -101,12 +98,7 @@ fn refused_openings(rt: HostRuntime) -> Result<(), Fail> {
     let calendar = ListCalendar::new(&dates, spacings);
     let (mut sheet, mut scratch) = ([WORD; 512], [BLANK; 64]);
     let mut entries = [
-        Entry {
-            call: Call::Advance { group: 1 },
-            sheet: &mut sheet,
-            scratch: &mut scratch,
-            answer: None,
-        },
+        Entry::new(Call::Advance { group: 1 }, &mut sheet, &mut scratch),
         Entry {
             call: Call::Withdraw { model: 1 },
             sheet: &mut [],
