@@ -3,14 +3,9 @@ use crate::checksum::Checksum;
 use crate::job::Job;
 use anyhow::Result;
 use kinds::runs::{ByModel, Run};
-use roster::Roster;
+use roster::{Roster, SCRATCH_RUNS, SHEET_WORDS};
 use season::{Call, Entry};
 use std::alloc::Global;
-
-/// The words that an advance asks for, and the runs.
-const WORDS: usize = 512;
-
-const RUNS: usize = 64;
 
 /// What a run of a scratch is before a call.
 const BLANK: Run = Run {
@@ -22,15 +17,15 @@ const BLANK: Run = Run {
 /// Memory that one call after another is lent.
 #[derive(Clone, Copy, Debug)]
 struct Memory {
-    sheet: [u64; WORDS],
-    scratch: [Run; RUNS],
+    sheet: [u64; SHEET_WORDS],
+    scratch: [Run; SCRATCH_RUNS],
 }
 
 impl Memory {
     fn new() -> Memory {
         Memory {
-            sheet: [0; WORDS],
-            scratch: [BLANK; RUNS],
+            sheet: [0; SHEET_WORDS],
+            scratch: [BLANK; SCRATCH_RUNS],
         }
     }
 }
@@ -55,10 +50,12 @@ impl Job {
 
     /// Performs so many calls on a roster, each with memory of its own.
     pub(crate) fn season(&self, heap: Global, times: u32) -> Result<Checksum> {
-        let mut words = vec![in heap; 0; times as usize * WORDS]?;
-        let mut runs = vec![in heap; BLANK; times as usize * RUNS]?;
+        let mut words = vec![in heap; 0; times as usize * SHEET_WORDS]?;
+        let mut runs = vec![in heap; BLANK; times as usize * SCRATCH_RUNS]?;
         let mut entries = Vec::with_capacity(heap, times as usize)?;
-        let lent = words.chunks_mut(WORDS).zip(runs.chunks_mut(RUNS));
+        let lent = words
+            .chunks_mut(SHEET_WORDS)
+            .zip(runs.chunks_mut(SCRATCH_RUNS));
         for (number, (sheet, scratch)) in (0..times).zip(lent) {
             entries.push(Entry::new(self.call(number), sheet, scratch))?;
         }

@@ -1,5 +1,6 @@
 //! Layers and calls as text.
 use anyhow::{Context, Error, Result, bail};
+use roster::{SCRATCH_RUNS, SHEET_WORDS};
 use season::Call;
 use std::ops::Range;
 use std::str::FromStr;
@@ -54,7 +55,7 @@ impl FromStr for Asked {
         };
         let (words, runs) = match parts.next() {
             Some(lent) => pair_of(lent, ',')?,
-            None => (512, 64),
+            None => (SHEET_WORDS as u32, SCRATCH_RUNS as u32),
         };
         Ok(Asked { call, words, runs })
     }

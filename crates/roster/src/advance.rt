@@ -7,9 +7,9 @@ ghost use Rattle.book.specs.Calls.{about, Advance};
 ghost use Rattle.roster.specs.Keeping.{Keeps, Advances, advance_of};
 ghost use Rattle.roster.specs.Intervals.{IsGroupOf, ComesTo, IsNextMoment};
 
-use crate::Roster;
 use crate::coming::Coming;
 use crate::group::Group;
+use crate::{Roster, SCRATCH_RUNS, SHEET_WORDS};
 use calendar::Calendar;
 use kinds::runs::Run;
 use order::Order;
@@ -18,7 +18,7 @@ use refusal::{Fault, Layer, Lent, Refusal};
 impl<'a, C: Calendar, O: Order<Item = Run>> Roster<'a, C, O> {
     /// Takes a group to its next moment, the first later tick that is a date of one of its models or the deadline of one of its runs, and writes the sheet of the interval.
     /// Answers the start and the end of the interval, the number of the group's first worker, and how many words were written; the words behind them stay, and the scratch is free.
-    /// Refused, the first of these first, with 9 where there is no such group, with 10 where the sheet has under 512 words (place 1) or the scratch under 64 things (place 2), and with 12 where the group has no later moment, all of layer `running`; then nothing is altered, and no memory is written to.
+    /// Refused, the first of these first, with 9 where there is no such group, with 10 where the sheet has under `SHEET_WORDS` words (place 1) or the scratch room for under `SCRATCH_RUNS` runs (place 2), and with 12 where the group has no later moment, all of layer `running`; then nothing is altered, and no memory is written to.
     /// It looks at each model a few times, and asks the calendar once for each model of the group that is not withdrawn.
     pub fn advance(
         &mut self,
@@ -53,10 +53,10 @@ impl<'a, C: Calendar, O: Order<Item = Run>> Roster<'a, C, O> {
         let Some(workers) = self.grouping.workers_in(group) else {
             return Err(Fault::Group.at(Layer::Running, group as u64));
         };
-        if words < 512 {
+        if words < SHEET_WORDS {
             return Err(Fault::Memory.at(Layer::Running, Lent::Sheet.place()));
         }
-        if things < 64 {
+        if things < SCRATCH_RUNS {
             return Err(Fault::Memory.at(Layer::Running, Lent::Scratch.place()));
         }
         Ok(Group {

@@ -29,6 +29,12 @@ use plan::groups::Grouping;
 use plan::plans::Plan;
 use set::sizes::WORKERS;
 
+/// The words that an advance asks for. No sheet has more than 287.
+pub const SHEET_WORDS: usize = 512;
+
+/// The runs that the scratch of an advance must have room for: a worker has at most one for each model.
+pub const SCRATCH_RUNS: usize = 64;
+
 /// Which runs go on, and how far each group has come.
 ///
 /// Of each group it holds its present, the tick up to which its sheets go, and whether its next sheet is mirrored; of each model a record.

@@ -81,15 +81,15 @@ returns-clause-keeps g c =
     let fine = rw (← w.ensures.1.0) at w.ensures.0 in
     let s : Sheet = record { group = w.group.number; start = slice_index x.presents (w.group.number - 1); end = c.in-Some.end; first = w.group.workers.first; rows = rows } in
     rw (← w.ensures.1.0) (keeps_so refl refl refl (λ b tells.
-          let done = advanced x (g.C.Calendar.spacings x.calendar.now) lawful w.group w.ensures.1.1 c.in-Some.end (length c.args.sheet.now) (length c.args.scratch.now) rows c.serve.new.self.records c.settle.new.models.records fine c.rows-rows.ensures.all
-          c.serve.ensures c.coming-coming.result.dates c.coming-coming.ensures c.settle.ensures b tells (c.in-Some.ensures.next b tells) (c.rows-rows.ensures.rows b tells) in
-          record {
-            answer = Advanced s;
-            after = entered b s;
-            step = done.0;
-            gives' = record { agrees = (s, (refl, ap (λ n. (s.start, s.end, s.first, n)) c.write-written.ensures.counts)); leaves = record { in_words = c.write-written.ensures.writes; in_scratch = c.rows-rows.ensures.scratch } };
-            is = done.1;
-          }))
+    let done = advanced x (g.C.Calendar.spacings x.calendar.now) lawful w.group w.ensures.1.1 c.in-Some.end (length c.args.sheet.now) (length c.args.scratch.now) rows c.serve.new.self.records c.settle.new.models.records fine c.rows-rows.ensures.all
+    c.serve.ensures c.coming-coming.result.dates c.coming-coming.ensures c.settle.ensures b tells (c.in-Some.ensures.next b tells) (c.rows-rows.ensures.rows b tells) in
+    record {
+      answer = Advanced s;
+      after = entered b s;
+      step = done.0;
+      gives' = record { agrees = (s, (refl, ap (λ n. (s.start, s.end, s.first, n)) c.write-written.ensures.counts)); leaves = record { in_words = c.write-written.ensures.writes; in_scratch = c.rows-rows.ensures.scratch } };
+      is = done.1;
+    }))
 
 pub rows-rows-requires-clause-room : goal.rows-rows-requires-clause-room
 rows-rows-requires-clause-room g c = (lent_enough c.args.self.now.plan.now c.args.group (length c.args.sheet.now) (length c.args.scratch.now) c.in_ok-group.ensures.0).1

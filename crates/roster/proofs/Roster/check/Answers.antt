@@ -18,18 +18,18 @@ returns-in_default g c =
     let none = subst (λ (set : Set). NoGroupIn set a.group) a.self.now.grouped c.in_default.ensures in
     no_group a.self.now.plan.now a.group a.words a.things (is_none a.self.now.plan.now a.group none) ∙ ap (λ e. Some (told e)) (sym c.at.ensures)
 
-pub returns-then-words-lt512 : goal.returns-then-words-lt512
-returns-then-words-lt512 g c =
+pub returns-then-words-lt-SHEET_WORDS : goal.returns-then-words-lt-SHEET_WORDS
+returns-then-words-lt-SHEET_WORDS g c =
     let a = c.args in
     let inside = subst (λ (set : Set). GroupIn set a.group c.in-Some.workers.first c.in-Some.workers.last) a.self.now.grouped c.in-Some.ensures in
-    few_words a.self.now.plan.now a.group a.words a.things (is_one a.self.now.plan.now a.group _ _ inside) c.if-words-lt512.true ∙ ap (λ e. Some (told e)) (sym (c.at-then-words-lt512.ensures ∙ ap memory c.place.ensures))
+    few_words a.self.now.plan.now a.group a.words a.things (is_one a.self.now.plan.now a.group _ _ inside) c.if-words-lt-SHEET_WORDS.true ∙ ap (λ e. Some (told e)) (sym (c.at-then-words-lt-SHEET_WORDS.ensures ∙ ap memory c.place.ensures))
 
-pub returns-then-things-lt64 : goal.returns-then-things-lt64
-returns-then-things-lt64 g c =
+pub returns-then-things-lt-SCRATCH_RUNS : goal.returns-then-things-lt-SCRATCH_RUNS
+returns-then-things-lt-SCRATCH_RUNS g c =
     let a = c.args in
     let inside = subst (λ (set : Set). GroupIn set a.group c.in-Some.workers.first c.in-Some.workers.last) a.self.now.grouped c.in-Some.ensures in
-    few_things a.self.now.plan.now a.group a.words a.things (is_one a.self.now.plan.now a.group _ _ inside) c.if-words-lt512.false c.if-things-lt64.true
-    ∙ ap (λ e. Some (told e)) (sym (c.at-then-things-lt64.ensures ∙ ap memory c.place-then-things-lt64.ensures))
+    few_things a.self.now.plan.now a.group a.words a.things (is_one a.self.now.plan.now a.group _ _ inside) c.if-words-lt-SHEET_WORDS.false c.if-things-lt-SCRATCH_RUNS.true
+    ∙ ap (λ e. Some (told e)) (sym (c.at-then-things-lt-SCRATCH_RUNS.ensures ∙ ap memory c.place-then-things-lt-SCRATCH_RUNS.ensures))
 
 pub invariant_of-result : goal.invariant_of-result
 invariant_of-result g c =
@@ -42,4 +42,4 @@ returns g c =
     let plan = a.self.now.plan.now in
     let inside = subst (λ (set : Set). GroupIn set a.group c.in-Some.workers.first c.in-Some.workers.last) a.self.now.grouped c.in-Some.ensures in
     let is = is_one plan a.group _ _ inside in
-    (all_fine plan a.group a.words a.things is c.if-words-lt512.false c.if-things-lt64.false, (refl, record { plan' = refl; some = group_some plan a.group is; few = group_last plan a.group is }))
+    (all_fine plan a.group a.words a.things is c.if-words-lt-SHEET_WORDS.false c.if-things-lt-SCRATCH_RUNS.false, (refl, record { plan' = refl; some = group_some plan a.group is; few = group_last plan a.group is }))

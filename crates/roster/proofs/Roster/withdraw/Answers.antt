@@ -51,8 +51,8 @@ returns g c =
     let is = c.meet.ensures ∙ ap (λ k. altered x.models.records k (λ p. met p Withdrawal)) some.1 in
     record {
       keeps = keeps_so refl refl refl (λ b tells.
-            let kept = phase_kept (rack_of x.plan.now) dates b _ (λ gone. c.in_default-phase.not-Withdrawn (c.phase.ensures ∙ ap (phase_at x.models.records) some.1 ∙ tells.phases _ model ∙ gone)) in
-            let fine = about_kept (rack_of x.plan.now) dates b _ model kept in
-            record { answer = Withdrew; after = without b c.args.model; step = withdraws c.args.model fine; gives' = refl; is = withdrawn_says x.models.records _ b _ tells x.models.full model fine is });
+          let kept = phase_kept (rack_of x.plan.now) dates b _ (λ gone. c.in_default-phase.not-Withdrawn (c.phase.ensures ∙ ap (phase_at x.models.records) some.1 ∙ tells.phases _ model ∙ gone)) in
+          let fine = about_kept (rack_of x.plan.now) dates b _ model kept in
+          record { answer = Withdrew; after = without b c.args.model; step = withdraws c.args.model fine; gives' = refl; is = withdrawn_says x.models.records _ b _ tells x.models.full model fine is });
       unchanged = tt;
     }
