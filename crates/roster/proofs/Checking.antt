@@ -12,7 +12,7 @@ use Rattle.order.specs.declared.Order.{Ghosts as OrderMeaning}
 use Rattle.order.specs.declared.Thing.{Ghosts as ThingMeaning}
 use Rattle.plan.specs.Groups.{group_of, GroupIn, NoGroupIn}
 use Rattle.set.specs.Heavy.{heavy_count_of}
-use Rattle.plan.proofs.Spans.{counts}
+use Rattle.roster.proofs.Groups.{worker_group}
 use Rattle.book.specs.Racks.{Rack, rack_of}
 use Rattle.book.specs.Books.{blank}
 use Rattle.book.specs.Calls.{Advance, about, is_group}
@@ -47,11 +47,7 @@ module _ (plan : Plan) (g : ℕ) where
       none w.0 group.from_one (omega (arith, group.some, group.within)) (group.inside w.0 (omega arith) group.some))
 
   pub is_one : (first last : ℕ) → GroupIn plan.set g first last → IsTrue (is_group rack g)
-  is_one first last group =
-      let sizes = plan.set.sizes in
-      let every = (counts (heavy_count_of plan.set) sizes.group_size sizes.some_group sizes.workers (rack.group rack.workers) sizes.some_workers refl).every first group.from_one (omega (arith, group.some, group.within)) in
-      let here = group.inside first (omega arith) group.some in
-      and_from _ _ (le-leb 1 g (omega (arith, every.0, here))) (le-leb g (rack.group rack.workers) (omega (arith, every.1, here)))
+  is_one first last group = subst (λ h. IsTrue (is_group rack h)) (group.inside first (omega arith) group.some) (worker_group plan first group.from_one (omega (arith, group.some, group.within)))
 
   module _ (words things : ℕ) where
     pub no_group : IsFalse (is_group rack g) → about rack blank (Advance g words things) ≡ Some (record { number = 9; layer = Running; place = g })

@@ -25,6 +25,7 @@ use Rattle.roster.specs.Advancing.{Soonest, settled, Settled}
 use Rattle.roster.specs.Coming.{deadline_in, moment_of, coming_at, dates_in, Comes, next_by}
 use Rattle.roster.proofs.Soonest.{soonest_same, soonest_at, soonest_or, soonest_if, earliest_soonest, some_of_alike, is_known}
 use Rattle.roster.proofs.Turning.{pick}
+use Rattle.roster.proofs.Phases.{by_phase}
 use Rattle.roster.proofs.Withdrawing.{gone_phase, phase_gone}
 
 -- at tick t a model in a phase has a date, or its run ends
@@ -68,16 +69,6 @@ due_phase true false true dated d x period t e = refl
 due_phase true false false true d x period t e = refl
 due_phase true false false false d x period t e = refl
 
-ends_phase : (gone live : Bool) (d x period from : ℕ) → (live ≡ true → from ≤ d + period) → EndsFrom period from (pick gone live d x)
-ends_phase true live d x period from l e y is = absurd (cc)
-ends_phase false true d x period from l e y is = l refl
-ends_phase false false d x period from l e y is = absurd (cc)
-
-deadline_phase : (gone live : Bool) (d x period : ℕ) → (live ≡ true → d + period < 2 ^ 32) → deadline_in period (pick gone live d x) < 2 ^ 32
-deadline_phase true live d x period l = omega arith
-deadline_phase false true d x period l = l refl
-deadline_phase false false d x period l = omega arith
-
 -- a withdrawn model stays so, whatever dates it has
 stays_gone : (period t : ℕ) (dated : Bool) → settled period dated t Withdrawn ≡ Withdrawn
 stays_gone period t true = refl
@@ -113,16 +104,17 @@ module _ {plan : Plan} {dates : ℕ → ℕ → Bool} {spacings : ℕ → ℕ} {
         ∙ ap (is_due (rack.period i) (dates i t) t) (sym (says.phases i model))))
 
     pub ends_told : (i : ℕ) → IsTrue (is_model_of rack i) → group_with rack i ≡ g → EndsFrom (rack.period i) (b.present g + 1) (phase_at records (i - 1))
-    ends_told i model same = rw (says.phases i model) (ends_phase (b.withdrawn i) (is_live rack dates b i) (date_of rack dates b i) (served rack dates b i) (rack.period i) (b.present g + 1) (λ live.
+    ends_told i model same = by_phase (EndsFrom (rack.period i) (b.present g + 1)) b says i model (λ d x is. absurd (cc)) (λ d x is. absurd (cc)) (λ live d x is.
         let l = lives rack dates b i live in
         let here : b.present (group_with rack i) ≡ b.present g = ap b.present same in
-        omega (arith, l.goes, here)))
+        let run : deadline_in (rack.period i) (Live (date_of rack dates b i) (served rack dates b i)) ≡ deadline_in (rack.period i) (Live d x) = ap (deadline_in (rack.period i)) is in
+        omega (arith, l.goes, here, run))
 
     pub deadline_small : (i : ℕ) → IsTrue (is_model_of rack i) → deadline_in (rack.period i) (phase_at records (i - 1)) < 2 ^ 32
-    deadline_small i model = rw (says.phases i model) (deadline_phase (b.withdrawn i) (is_live rack dates b i) (date_of rack dates b i) (served rack dates b i) (rack.period i) (λ live.
+    deadline_small i model = by_phase (λ p. deadline_in (rack.period i) p < 2 ^ 32) b says i model (omega arith) (omega arith) (λ live.
         let l = lives rack dates b i live in
         let w = within_both 1 rack.models i model in
-        omega (arith, lawful.calendar.early i (date_of rack dates b i) l.date, ((rack_of-IsRack plan).fine i w.0 w.1).small_period)))
+        omega (arith, lawful.calendar.early i (date_of rack dates b i) l.date, ((rack_of-IsRack plan).fine i w.0 w.1).small_period))
 
     pub present_small : IsTrue (is_group rack g) → slice_index presents (g - 1) < 2 ^ 30 + 100801
     present_small is = omega (arith, says.present' g is, present_early says.reached g)

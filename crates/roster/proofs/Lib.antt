@@ -4,10 +4,12 @@ pub mod Checking
 pub mod Dividing
 pub mod Due
 pub mod Filling
+pub mod Groups
 pub mod Keeping
 pub mod Lineups
 pub mod Opening
 pub mod Parts
+pub mod Phases
 pub mod Reports
 pub mod RowsTold
 pub mod Seats

@@ -34,6 +34,8 @@ use Rattle.roster.specs.declared.Roster.{Roster}
 use Rattle.roster.specs.Records.{phase_at, date_in, served_in}
 use Rattle.roster.specs.Reports.{report_of}
 use Rattle.roster.specs.Telling.{IsBook}
+use Rattle.roster.proofs.Groups.{worker_group}
+use Rattle.roster.proofs.Phases.{by_phase}
 use Rattle.roster.proofs.Keeping.{keeps_so}
 use Rattle.roster.specs.Keeping.{IsBookOf, Keeps}
 
@@ -41,23 +43,8 @@ worker_last : (x : Pieces) → worker_of x ≤ last_of x
 worker_last (Whole worker size) = omega arith
 worker_last (Divided worker first second) = omega arith
 
-date_phase : (gone live : Bool) (d x t : ℕ) → d ≤ t → date_in (if gone then Withdrawn else if live then Live d x else Waiting) ≤ t
-date_phase true live d x t l = omega arith
-date_phase false true d x t l = l
-date_phase false false d x t l = omega arith
-
-small_phase : (gone live : Bool) (d x t : ℕ) → (live ≡ true → x ≤ t) → served_in (if gone then Withdrawn else if live then Live d x else Waiting) ≤ t
-small_phase true live d x t l = omega arith
-small_phase false true d x t l = l refl
-small_phase false false d x t l = omega arith
-
 parts_between : (t d G : ℕ) → t * G - d * G ≤ (t - d) * G
 parts_between t d G = omega (arith, add-mul (t - d) d G, mul-le-mul_right G (let h : t ≤ t - d + d = omega arith in h))
-
-served_phase : (gone live : Bool) (d x t : ℕ) → x ≤ t → served_in (if gone then Withdrawn else if live then Live d x else Waiting) ≤ t
-served_phase true live d x t l = omega arith
-served_phase false true d x t l = l
-served_phase false false d x t l = omega arith
 
 shown_phase : (gone live : Bool) (d x w t : ℕ) → report_of (if gone then Withdrawn else if live then Live d x else Waiting) w t
     ≡ (if gone then quiet answer.Withdrawn else if live then record { phase = phase_number answer.Live; date = d; served = x; lag = pos x -ℤ pos (w * (t - d)) } else quiet answer.Waiting)
@@ -85,15 +72,13 @@ module _ {plan : Plan} {dates : ℕ → ℕ → Bool} {precedes : Run → Run �
   in_group =
       let w = within_both 1 rack.models i model in
       let fine = (rack_of-IsRack plan).fine i w.0 w.1 in
-      let sizes = plan.set.sizes in
-      let every = (counts (heavy_count_of plan.set) sizes.group_size sizes.some_group sizes.workers (rack.group rack.workers) sizes.some_workers refl).every (worker_of (rack.pieces i)) fine.from (omega (arith, fine.to, worker_last (rack.pieces i))) in
-      and_from _ _ (le-leb _ _ every.0) (le-leb _ _ every.1)
+      worker_group plan (worker_of (rack.pieces i)) fine.from (omega (arith, fine.to, worker_last (rack.pieces i)))
 
   pub present_told : present ≡ present_of rack b i
   present_told = says.present' (group_with rack i) in_group
 
   pub begun : date_in (phase_at records (i - 1)) ≤ present
-  begun = rw (says.phases i model, present_told) (date_phase (b.withdrawn i) (is_live rack dates b i) (date_of rack dates b i) (served rack dates b i) (present_of rack b i) (latest_le (dates i) (present_of rack b i)))
+  begun = rw present_told (by_phase (λ p. date_in p ≤ present_of rack b i) b says i model (omega arith) (omega arith) (λ live. latest_le (dates i) (present_of rack b i)))
 
   pub few : (spacings : ℕ → ℕ) → Lawful plan dates spacings precedes → served_in (phase_at records (i - 1)) ≤ present * rack.grain
   few spacings lawful =
@@ -102,7 +87,7 @@ module _ {plan : Plan} {dates : ℕ → ℕ → Bool} {precedes : Run → Run �
       let t = present_of rack b i * rack.grain in
       let d = date_of rack dates b i * rack.grain in
       let got = total_le_all (t - d) 1 _ (λ k l. sound.alone i (d + k) w.0) in
-      rw (says.phases i model, present_told) (served_phase (b.withdrawn i) (is_live rack dates b i) (date_of rack dates b i) (served rack dates b i) t (omega (arith, got)))
+      rw present_told (by_phase (λ p. served_in p ≤ t) b says i model (omega arith) (omega arith) (λ live. omega (arith, got)))
 
   -- a run got no more parts than there are in its period
   pub small : (spacings : ℕ → ℕ) → Lawful plan dates spacings precedes → served_in (phase_at records (i - 1)) ≤ 100800 * 100800
@@ -113,10 +98,10 @@ module _ {plan : Plan} {dates : ℕ → ℕ → Bool} {precedes : Run → Run �
       let now = present_of rack b i in
       let date = date_of rack dates b i in
       let got = total_le_all (now * rack.grain - date * rack.grain) 1 _ (λ k l. sound.alone i (date * rack.grain + k) w.0) in
-      rw (says.phases i model) (small_phase (b.withdrawn i) (is_live rack dates b i) date (served rack dates b i) (100800 * 100800) (λ live.
+      by_phase (λ p. served_in p ≤ 100800 * 100800) b says i model (omega arith) (omega arith) (λ live.
       let l = lives rack dates b i live in
       let fine = ok.fine i w.0 w.1 in
-      omega (arith, got, parts_between now date rack.grain, mul-le (now - date) rack.grain 100800 100800 (omega (arith, l.goes, fine.small_period)) ok.small_grain)))
+      omega (arith, got, parts_between now date rack.grain, mul-le (now - date) rack.grain 100800 100800 (omega (arith, l.goes, fine.small_period)) ok.small_grain))
 
   pub shown : (weight : ℕ) → weight ≡ rack.weight i → report_of (phase_at records (i - 1)) weight present ≡ standing_of rack dates b i
   shown weight is = rw (says.phases i model, present_told, is) (shown_phase (b.withdrawn i) (is_live rack dates b i) (date_of rack dates b i) (served rack dates b i) (rack.weight i) (present_of rack b i))

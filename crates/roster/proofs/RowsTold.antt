@@ -23,6 +23,7 @@ use Rattle.roster.specs.declared.sheet.ends.Ends.{Ends}
 use Rattle.roster.specs.Waiting.{runs_of}
 use Rattle.roster.specs.Dividing.{IsAtEnd, AreEnds, Divides}
 use Rattle.roster.proofs.Dividing.{divides}
+use Rattle.roster.proofs.Phases.{by_phase}
 use Rattle.roster.specs.declared.phase.Phase.{Phase}
 use Rattle.roster.specs.declared.phase.Phase.TheVariants.{Waiting, Live, Withdrawn}
 use Rattle.roster.specs.declared.record.Record.{Record}
@@ -52,11 +53,6 @@ with_model : (model a c : Bool) → (model ≡ true → a ≡ c) → (c ≡ true
 with_model true a c same only = same refl
 with_model false a true same only = absurd (let e = only refl in cc)
 with_model false a false same only = refl
-
-early_phase : (gone live : Bool) (d x t : ℕ) → 0 < t → (live ≡ true → d < t) → date_in (if gone then Withdrawn else if live then Live d x else Waiting) < t
-early_phase true live d x t some l = some
-early_phase false true d x t some l = l refl
-early_phase false false d x t some l = some
 
 -- runs of the same models are the same
 runs_same : (takes takes' : ℕ → Bool) (run run' : ℕ → Run) → ((i : ℕ) → takes i ≡ takes' i) → ((i : ℕ) → IsTrue (takes' i) → run i ≡ run' i) → (n : ℕ) → runs_of takes run n ≡ runs_of takes' run' n
@@ -115,15 +111,7 @@ module _ {plan : Plan} {dates : ℕ → ℕ → Bool} {precedes : Run → Run �
       subst (λ n. SaysRow n (has rack dates precedes b D p) row) ends'.long' (says_row (has rack dates precedes b D p) (divides (rack_of-IsRack plan) dates b precedes lawful.order D p some last things waiting ends ends'))
 
   pub early : {spacings : ℕ → ℕ} → Lawful plan dates spacings precedes → Early plan records
-  early lawful i model = rw (says.phases i model) (early_phase (b.withdrawn i) (is_live rack dates b i) (date_of rack dates b i) (served rack dates b i) (2 ^ 30) (omega arith) (λ live. lawful.calendar.early i (date_of rack dates b i) (lives rack dates b i live).date))
-
--- a worker is in a group
-pub worker_group : (plan : Plan) (p : ℕ) → 1 ≤ p → p ≤ (rack_of plan).workers → IsTrue (is_group (rack_of plan) ((rack_of plan).group p))
-worker_group plan p some last =
-    let rack = rack_of plan in
-    let sizes = plan.set.sizes in
-    let every = (counts (heavy_count_of plan.set) sizes.group_size sizes.some_group sizes.workers (rack.group rack.workers) sizes.some_workers refl).every p some last in
-    and_from _ _ (le-leb _ _ every.0) (le-leb _ _ every.1)
+  early lawful i model = by_phase (λ p. date_in p < 2 ^ 30) b says i model (omega arith) (omega arith) (λ live. lawful.calendar.early i (date_of rack dates b i) (lives rack dates b i live).date)
 
 -- a row more
 pub rows_more : (rack : Rack) (dates : ℕ → ℕ → Bool) (precedes : Run → Run → Bool) (b : Book) (D p q : ℕ) (rows : List Row) (row : Row) → AreRows rack dates precedes b D p rows → q ≡ p + length rows → IsRow rack dates precedes b D q row → AreRows rack dates precedes b D p (rows ++ row ∷ [])

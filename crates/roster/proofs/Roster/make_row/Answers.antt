@@ -4,7 +4,8 @@ use Rattle.book.specs.Racks.{rack_of}
 use Rattle.roster.specs.Spans.{spans_of}
 use Rattle.roster.specs.Filling.{EndsOf}
 use Rattle.roster.proofs.Reports.{lawful_over}
-use Rattle.roster.proofs.RowsTold.{worker_group, row_told}
+use Rattle.roster.proofs.RowsTold.{row_told}
+use Rattle.roster.proofs.Groups.{worker_group}
 use Rattle.roster.proofs.Roster.make_row.Goals as goal
 
 pub returns-clause-row : goal.returns-clause-row
