@@ -27,6 +27,7 @@ impl<'a> Entry<'a> {
         ensures call { result.call ≡ call }
         ensures asks { asked_by result ≡ asked call sheet.old scratch.old }
         ensures holds { (result.sheet.now ≡ sheet.old) × (result.scratch.now ≡ scratch.old) }
+        ensures lent { (result.sheet.ghost_name ≡ sheet.entry.ghost_name) × (result.scratch.ghost_name ≡ scratch.entry.ghost_name) }
         ensures unanswered { result.answer ≡ None }
     {
         Entry {
