@@ -105,7 +105,6 @@ module _ (plan : Plan) (dates : ℕ → ℕ → Bool) (before after : ℕ) (v x 
     out = λ is x. rw same at (p.serves.out 0 before (record { entry = v; there = refl; out = rw (p.asks_first, p.withdrawal', is) (eq-eqb before before refl) }) x (omega arith));
   }
 
--- an entry that was performed is answered, and its sheet is as long as it was
 -- what is asked by an entry tells its call
 asks_withdrawal : (c : Call) (words : List ℕ) (things : List Run) (i : ℕ) → asked c words things ≡ Withdraw i → c ≡ call.Withdraw i
 asks_withdrawal (call.Withdraw j) words things i is = cc

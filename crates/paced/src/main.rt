@@ -1,4 +1,4 @@
-//! Advances rosters for tools/bench to time: each line of standard input is a job, and is answered by a number that hangs on all answers and on every word of every sheet.
+//! Advances rosters for tools/bench to time: each line of standard input is a job, and is answered by a number that hangs on what each call answers and on every word of every sheet.
 //!
 //! A line has a plan, `wide`, `grouped` or `small`, a way, `advance`, `open` or `season`, and how often a roster is called.
 #![tactic(auto)]

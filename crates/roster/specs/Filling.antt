@@ -14,6 +14,7 @@ use Rattle.roster.specs.declared.phase.Phase.TheVariants.{Waiting, Live, Withdra
 use Rattle.roster.specs.declared.record.Record.{Record}
 use Rattle.roster.specs.Records.{phase_at, date_in, served_in}
 
+-- a model in this phase has a run
 abbrev pub is_live_in : Phase → Bool
 is_live_in Waiting = false
 is_live_in (Live date served) = true

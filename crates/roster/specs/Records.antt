@@ -1,4 +1,4 @@
--- What an event makes of a model's phase.
+-- What tables of records say, and what an event makes of a phase; of these, public contracts cite `phase_at` alone.
 use Rattle.std.specs.Prelude.{ℕ, ◌+◌, ◌<◌, ◌^◌, List, slice_index_or, slice_set}
 use Rattle.roster.specs.declared.phase.Phase.{Phase}
 use Rattle.roster.specs.declared.phase.Phase.TheVariants.{Waiting, Live, Withdrawn}
@@ -6,6 +6,7 @@ use Rattle.roster.specs.declared.event.Event.{Event}
 use Rattle.roster.specs.declared.event.Event.TheVariants.{Date, Deadline, Service, Withdrawal}
 use Rattle.roster.specs.declared.record.Record.{Record}
 
+-- the phase of a model to which this happens
 abbrev pub met : Phase → Event → Phase
 met Waiting (Date tick) = Live tick 0
 met Waiting Deadline = Waiting
@@ -30,6 +31,7 @@ HasRoom phase Deadline = Unit {0}
 HasRoom phase (Service parts) = served_in phase + parts < 2 ^ 64
 HasRoom phase Withdrawal = Unit {0}
 
+-- what the model in slot k is doing
 abbrev pub phase_at : List Record → ℕ → Phase
 phase_at records k = (slice_index_or records k (record { phase = Waiting })).phase
 

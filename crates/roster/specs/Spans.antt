@@ -4,9 +4,11 @@ use Rattle.book.specs.Sheets.{Span as Told, Row as TheRow}
 use Rattle.roster.specs.declared.sheet.row.Row.{Row}
 use Rattle.roster.specs.declared.sheet.span.Span.{Span}
 
+-- a span, as the book has it
 abbrev pub told_by : Span → Told
 told_by span = record { end = span.end; model = span.model }
 
+-- how many spans it has
 abbrev pub span_count : Row → ℕ
 span_count row = row.count
 

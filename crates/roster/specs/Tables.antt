@@ -10,6 +10,7 @@ abbrev pub pieces_of : {X : Type 0} → List ℕ → List X → List (List X)
 pieces_of [] xs = []
 pieces_of (n ∷ ns) xs = take n xs ∷ pieces_of ns (drop n xs)
 
+-- how many spans each row has
 abbrev pub sizes_of : Rows → List ℕ
 sizes_of t = take t.count t.sizes
 

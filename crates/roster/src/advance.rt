@@ -18,7 +18,11 @@ use refusal::{Fault, Layer, Lent, Refusal};
 impl<'a, C: Calendar, O: Order<Item = Run>> Roster<'a, C, O> {
     /// Takes a group to its next moment, the first later tick that is a date of one of its models or the deadline of one of its runs, and writes the sheet of the interval.
     /// Answers the start and the end of the interval, the number of the group's first worker, and how many words were written; the words behind them stay, and the scratch is free.
-    /// Refused, the first of these first, with 9 where there is no such group, with 10 where the sheet has under `SHEET_WORDS` words (place 1) or the scratch room for under `SCRATCH_RUNS` runs (place 2), and with 12 where the group has no later moment, all of layer `running`; then nothing is altered, and no memory is written to.
+    ///
+    /// Refused by the layer `running`, the first of these first: with 9 where there is no such group;
+    /// with 10 where the sheet has under `SHEET_WORDS` words (place 1) or the scratch room for under `SCRATCH_RUNS` runs (place 2);
+    /// with 12 where the group has no later moment. Then nothing is altered, and no memory is written to.
+    ///
     /// It looks at each model a few times, and asks the calendar once for each model of the group that is not withdrawn.
     pub fn advance(
         &mut self,

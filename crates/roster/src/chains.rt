@@ -9,7 +9,7 @@ const CHAINS: usize = 33;
 
 /// The models of each worker in a chain, by slots: the first one on each worker, and behind each model the next one on the same worker; where there is none, the number of models.
 /// A model in two pieces is in the chain of the worker of its first piece.
-#[derive(Clone, Copy)]
+#[derive(Drop)]
 pub(crate) struct Chains {
     pub(crate) heads: [usize; CHAINS],
     pub(crate) nexts: [usize; MODELS],

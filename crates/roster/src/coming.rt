@@ -10,7 +10,7 @@ use calendar::Calendar;
 use set::sizes::MODELS;
 
 /// Of each model of a group its earliest date to come.
-#[derive(Clone, Copy)]
+#[derive(Drop)]
 pub(crate) struct Coming {
     pub(crate) dates: [Option<u32>; MODELS],
 }

@@ -1,5 +1,3 @@
-//! What can happen to a model.
-
 /// What can happen to a model.
 #[derive(Clone, Copy)]
 pub(crate) enum Event {

@@ -39,7 +39,7 @@ pub const SCRATCH_RUNS: usize = 64;
 ///
 /// Of each group it holds its present, the tick up to which its sheets go, and whether its next sheet is mirrored; of each model a record.
 /// The plain book holds all sheets and reads the phase of a model off them; a record holds the phase, with what the run got so far.
-/// That this is enough is the fact `told`: there is a book, to which calls have led from the blank one, that says what the fields say.
+/// That this is enough is the fact `booked`: there is a book, to which calls have led from the blank one, that says what the fields say.
 /// It borrows the plan, the calendar and the order, and owns no other memory.
 #[derive(Drop)]
 pub struct Roster<'a, C: Calendar, O: Order<Item = Run>> {

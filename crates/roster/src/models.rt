@@ -9,7 +9,7 @@ use set::sizes::MODELS;
 mod service;
 
 /// The records of all models, in a plain table; the model in slot *i* has the number *i* + 1.
-#[derive(Clone, Copy)]
+#[derive(Drop)]
 pub(crate) struct Models {
     pub(crate) records: [Record; MODELS],
     ghost full: { length records ≡ 64 },
@@ -20,8 +20,8 @@ impl Models {
     ghost use Rattle.roster.specs.Records.{met, HasRoom, phase_at, altered};
     ghost use Rattle.roster.specs.Advancing.{settled};
 
-    /// All wait.
-    pub(crate) fn new() -> Self
+    /// Records of models that all wait.
+    pub(crate) fn new() -> Models
         ensures { (k : ℕ) → phase_at result.records k ≡ Phase.Waiting }
     {
         let waiting = Record {
@@ -40,7 +40,7 @@ impl Models {
         self.records[slot].phase
     }
 
-    /// One record is lent and altered.
+    /// Lends the record in a slot, which is altered by what happens to its model.
     pub(crate) fn meet(&mut self, slot: usize, event: Event)
         requires slot { slot < 64 }
         requires room { HasRoom (phase_at self.old.records slot) event }
@@ -49,7 +49,7 @@ impl Models {
         self.records[slot].meet(event);
     }
 
-    /// One record is lent, and settled at a tick.
+    /// Lends the record in a slot, which is settled at a tick.
     pub(crate) fn settle(&mut self, slot: usize, period: u32, dated: bool, tick: u32)
         requires { slot < 64 }
         ensures { self.new.records ≡ altered self.old.records slot (settled period dated tick) }

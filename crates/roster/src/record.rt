@@ -1,4 +1,4 @@
-//! The record of one model.
+//! The record of a model, and how it is altered.
 ghost use Rattle.std.specs.Prelude.{◌≡◌};
 ghost use Rattle.roster.specs.Records.{met, HasRoom};
 ghost use Rattle.roster.specs.Advancing.{settled};

@@ -1,4 +1,3 @@
-//! What a roster answers.
 use refusal::Refusal;
 use standing::Standing;
 

@@ -1,4 +1,4 @@
-//! What is asked of a roster.
+//! A call, and how it is made.
 ghost use Rattle.std.specs.Prelude.{◌≡◌, length};
 ghost use Rattle.roster.specs.Keeping.{Keeps};
 ghost use Rattle.season.specs.Asking.{asked, Gives};

@@ -7,9 +7,9 @@ ghost use Rattle.book.specs.Racks.{rack_of};
 ghost use Rattle.book.specs.Calls.{about_opening};
 ghost use Rattle.season.specs.Performing.{Performed};
 
-pub mod answer;
-pub mod call;
-pub mod entry;
+mod answer;
+mod call;
+mod entry;
 
 pub use answer::Answer;
 use calendar::Calendar;

@@ -78,8 +78,5 @@ fn chain_with(worker: u32, second: bool) -> u32
     requires { 1 ≤ worker }
     ensures { result ≡ chain_with second worker }
 {
-    match second {
-        false => worker,
-        true => worker - 1,
-    }
+    if second { worker - 1 } else { worker }
 }

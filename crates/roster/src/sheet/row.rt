@@ -13,7 +13,7 @@ mod turns;
 pub(crate) const ROW_SPANS: usize = 67;
 
 /// The spans of one worker so far, in the first `count` places of a table. One row after another is made in it.
-#[derive(Clone, Copy)]
+#[derive(Drop)]
 pub(crate) struct Row {
     spans: [Span; ROW_SPANS],
     count: usize,

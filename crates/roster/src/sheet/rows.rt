@@ -11,7 +11,7 @@ mod words;
 pub(crate) const SHEET_SPANS: usize = 127;
 
 /// The rows of workers, one behind the other: how many spans each of the first `count` has, and the first `total` spans of a table.
-#[derive(Clone, Copy)]
+#[derive(Drop)]
 pub(crate) struct Rows {
     sizes: [usize; WORKERS],
     count: usize,
