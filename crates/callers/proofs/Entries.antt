@@ -1,6 +1,6 @@
 -- What a caller knows that performed a list of calls.
 use Rattle.std.proofs.Common.{◌≡◌, ◌≢◌, ℕ, zero, suc, ◌+◌, ◌-◌, ◌*◌, ◌<◌, Bool, List, [], ◌∷◌, ◌++◌, length, map, take, Some, Option, refl, sym, ap, subst, ◌∙◌, append-nil, arith, IsSome}
-use Rattle.std.specs.Prelude.{slice_index_or, if◌then◌else◌}
+use Rattle.std.specs.Prelude.{slice_index_or, replicate, if◌then◌else◌}
 use Rattle.std.specs.Bool.{IsFalse, ◌==◌}
 use Rattle.std.proofs.lemmas.Bool.{ne_eqb, eq-eqb}
 use Rattle.kinds.specs.declared.runs.Run.{Run}
@@ -8,6 +8,7 @@ use Rattle.plan.specs.declared.plans.Plan.{Plan}
 use Rattle.book.specs.Racks.{Rack, rack_of}
 use Rattle.book.specs.Sheets.{Sheet}
 use Rattle.book.specs.Books.{Book, blank, group_with}
+use Rattle.book.specs.Buffers.{words_after}
 use Rattle.book.specs.Calls.{Call as Asked, Advance, Withdraw, Answer as Given, Leads}
 use Rattle.season.specs.declared.call.Call.{Call}
 use Rattle.season.specs.declared.call.Call.TheVariants as call
@@ -123,18 +124,19 @@ says_kept old new given a met is =
     let same : met.answer ≡ a = cc in
     subst (λ (b : Answer). IsAnswer b given) same met.gives.is
 
-is_kept : (old new : Entry) (given : Given) (interval : Interval) → Holds old given new → KeptOf new interval → IsKept interval given
-is_kept old new given interval met is = record { says = says_kept old new given interval.answer met is.answer'; lent = old.sheet.now; words' = sym is.words' ∙ met.gives.leaves.in_words }
+is_kept : (old new : Entry) (given : Given) (interval : Interval) → old.sheet.now ≡ replicate 512 0 → Holds old given new → KeptOf new interval → IsKept interval given
+is_kept old new given interval blank met is = record { says = says_kept old new given interval.answer met is.answer'; words' = sym is.words' ∙ met.gives.leaves.in_words ∙ ap (words_after given) blank }
 
 -- what is known of entries that were performed
 pub known : {plan : Plan} {dates : ℕ → ℕ → Bool} {precedes : Run → Run → Bool} {before after : ℕ} {n o p q : Entry} {news : List Entry} {kept : Kept} (d : Entry)
+    → o.sheet.now ≡ replicate 512 0 → p.sheet.now ≡ replicate 512 0
     → Performed plan dates precedes (n ∷ o ∷ p ∷ q ∷ []) news → map asked_by (n ∷ o ∷ p ∷ q ∷ []) ≡ calls_of before after
     → (slice_index_or news 0 d).answer ≡ Some kept.withdrawal
     → (slice_index_or news 1 d).answer ≡ Some kept.first.answer → (slice_index_or news 1 d).sheet.now ≡ kept.first.words
     → (slice_index_or news 2 d).answer ≡ Some kept.second.answer → (slice_index_or news 2 d).sheet.now ≡ kept.second.words
     → (slice_index_or news 3 d).answer ≡ Some kept.last_withdrawal
     → Knows plan dates precedes before after kept
-known {plan} {dates} {precedes} {before} {after} {n} {o} {p} {q} {news} {kept} d performed asks = by_hold performed.hold performed.serves performed.answered.only
+known {plan} {dates} {precedes} {before} {after} {n} {o} {p} {q} {news} {kept} d first_blank second_blank performed asks = by_hold performed.hold performed.serves performed.answered.only
   where
     by_hold : {givens : List Given} {news : List Entry} {end : Book} → Hold (n ∷ o ∷ p ∷ q ∷ []) givens news → Serves plan dates news
         → ((answers : List Given) (other : Book) → Leads (rack_of plan) dates precedes blank (map asked_by (n ∷ o ∷ p ∷ q ∷ [])) answers other → (answers ≡ givens) × (other ≡ end))
@@ -160,4 +162,4 @@ known {plan} {dates} {precedes} {before} {after} {n} {o} {p} {q} {news} {kept} d
         } in
         knows plan dates before after v x y z kept all precedes (λ answers end led.
         let same = (only answers end (subst (λ (cs : List Asked). Leads (rack_of plan) dates precedes blank cs answers end) (sym asks) led)).0 in
-        subst (AreKept kept) (sym same) (says_kept n v _ _ e withdrawal', is_kept o x _ _ f first', is_kept p y _ _ g second', says_kept q z _ _ h last_withdrawal'))
+        subst (AreKept kept) (sym same) (says_kept n v _ _ e withdrawal', is_kept o x _ _ first_blank f first', is_kept p y _ _ second_blank g second', says_kept q z _ _ h last_withdrawal'))

@@ -1,5 +1,5 @@
 -- What a caller knows that made call after call.
-use Rattle.std.proofs.Common.{◌≡◌, ◌≢◌, ℕ, ◌+◌, ◌-◌, ◌*◌, Bool, List, [], ◌∷◌, ◌++◌, append-nil, refl, sym, ap, ◌∙◌, subst, arith}
+use Rattle.std.proofs.Common.{replicate, ◌≡◌, ◌≢◌, ℕ, ◌+◌, ◌-◌, ◌*◌, Bool, List, [], ◌∷◌, ◌++◌, append-nil, refl, sym, ap, ◌∙◌, subst, arith}
 use Rattle.std.specs.Bool.{◌==◌}
 use Rattle.std.proofs.lemmas.Bool.{ne_eqb, cond-false}
 use Rattle.kinds.specs.declared.runs.Run.{Run}
@@ -87,7 +87,7 @@ module _ {plan : Plan} {dates : ℕ → ℕ → Bool} {spacings : ℕ → ℕ} {
 
   -- an advance adds the sheet that is kept of it
   added : (b c : Book) (given : Given) (interval : Interval) → Step rack dates precedes b (Advance 1 512 64) given c → IsKept interval given → c.sheets ≡ b.sheets ++ sheet_of interval
-  added b c given interval step is = rw is.words' (held_advance b 1 512 64 given c interval.answer is.lent step is.says)
+  added b c given interval step is = rw is.words' (held_advance b 1 512 64 given c interval.answer (replicate 512 0) step is.says)
 
   no_sheet : p.one.sheets ≡ []
   no_sheet = held_one blank (call.Withdraw before) [] [] p.answers.0 p.one kept.withdrawal [] p.first_step p.withdrawal'

@@ -1,5 +1,5 @@
 -- What a caller knows of two intervals of group 1, from tick 0 on, when one model was withdrawn before them and another after.
-use Rattle.std.specs.Prelude.{◌≡◌, ◌≢◌, ℕ, ◌*◌, ◌≤◌, Bool, IsTrue, List, [], ◌∷◌, ◌++◌, Some}
+use Rattle.std.specs.Prelude.{◌≡◌, ◌≢◌, ℕ, ◌*◌, ◌≤◌, Bool, IsTrue, List, [], ◌∷◌, ◌++◌, Some, replicate}
 use Rattle.set.specs.Sets.{HasModel}
 use Rattle.kinds.specs.declared.runs.Run.{Run}
 use Rattle.plan.specs.declared.plans.Plan.{Plan}
@@ -27,11 +27,10 @@ sheets_of kept = sheet_of kept.first ++ sheet_of kept.second
 abbrev pub EndsAt : ℕ → Interval → Type 0
 EndsAt t interval = (start first written : ℕ) × (interval.answer ≡ answer.Advanced start t first written)
 
--- an interval says what the book answers, and has what that leaves in the words that were lent
+-- an interval says what the book answers, and has what that leaves in 512 words that were 0
 pub record IsKept (interval : Interval) (given : Given) : Type 0 where
   pub says : IsAnswer interval.answer given
-  pub lent : List ℕ
-  pub words' : interval.words ≡ words_after given lent
+  pub words' : interval.words ≡ words_after given (replicate 512 0)
 
 -- what is kept is what the book answers to the four calls
 abbrev pub AreKept : Kept → List Given → Type 0

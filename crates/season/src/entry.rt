@@ -12,7 +12,7 @@ use order::Order;
 use roster::Roster;
 
 /// A call with memory of its own, of any length, and a place for its answer.
-/// Only an advance uses the memory: it asks for 512 words for the sheet and for room for 64 runs in the scratch.
+/// Only an advance uses the memory: it asks for `roster::SHEET_WORDS` words for the sheet and for room for `roster::SCRATCH_RUNS` runs in the scratch.
 #[derive(Drop)]
 pub struct Entry<'a> {
     pub call: Call,

@@ -9,4 +9,4 @@ returns g c =
     let second = c.new-3.ensures in
     let one = c.interval.ensures in
     let two = c.interval-2.ensures in
-    (fine, known _ performed (rw (c.new.ensures.asks, first.asks, second.asks, c.new-4.ensures.asks) refl) c.answer.ensures one.answer one.words two.answer two.words c.answer-2.ensures)
+    (fine, known _ first.holds.0 second.holds.0 performed (rw (c.new.ensures.asks, first.asks, second.asks, c.new-4.ensures.asks) refl) c.answer.ensures one.answer one.words two.answer two.words c.answer-2.ensures)
