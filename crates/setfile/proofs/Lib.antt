@@ -5,3 +5,4 @@ pub mod Headers
 pub mod Files
 pub mod Writings
 pub mod Makings
+pub mod Longer

@@ -1,7 +1,7 @@
 //! Set files: a set as 32-bit little-endian words, read and written.
 #![tactic(auto)]
 
-ghost use Rattle.std.specs.Prelude.{◌≡◌, ℕ, ◌+◌, ◌*◌, ◌<◌, ◌≤◌, List, length, Ok, MatchResult, slice_index};
+ghost use Rattle.std.specs.Prelude.{◌≡◌, ℕ, ◌+◌, ◌*◌, ◌<◌, ◌≤◌, List, ◌++◌, length, Ok, MatchResult, slice_index};
 ghost use Rattle.refusal.specs.Refusals.{Answers};
 ghost use Rattle.set.specs.declared.sets.Set.{Set};
 ghost use Rattle.set.specs.Sets.{models_of};
@@ -17,10 +17,15 @@ use std::array;
 /// The bytes of the four sizes at the head of a file.
 const HEADER: usize = 16;
 
+/// The bytes of the longest file, which has the most models.
+pub const MOST_BYTES: usize = HEADER + 8 * MODELS;
+
 /// The set of a file. The file of a set reads as that set, and no other file does.
+/// More than `MOST_BYTES` bytes are refused, by the first 16 of them alone, so whatever stands behind need not be had.
 pub fn read(bytes: &[u8]) -> Result<Set, Refusal>
     ensures reads { Reads bytes.now result }
     ensures back { (s : Set) → bytes.now ≡ file_of s → result ≡ Ok s }
+    ensures longer { (more : List ℕ) → 528 < length bytes.now → Reads (bytes.now ++ more) result }
     ensures one { (s : Set) (other : List ℕ) → result ≡ Ok s → Reads other (Ok s) → other ≡ bytes.now }
 {
     if bytes.len() < HEADER {
