@@ -1,5 +1,6 @@
 -- A sheet fits its words, and a standing its fields.
-use Rattle.std.proofs.Common.{◌≡◌, ◌≢◌, ℕ, zero, suc, ◌+◌, ◌-◌, ◌*◌, ◌^◌, ◌<◌, ◌≤◌, Bool, true, false, cond, not, ◌&&◌, ◌||◌, min, List, [], ◌∷◌, length, ◌⊎◌, inl, inr, refl, ap, sym, ◌∙◌, add-mul, mul-le-mul_right, arith}
+use Rattle.std.proofs.Common.{◌≡◌, ◌≢◌, ℕ, zero, suc, ◌+◌, ◌-◌, ◌*◌, ◌^◌, ◌<◌, ◌≤◌, Bool, true, false, cond, not, ◌&&◌, ◌||◌, min, List, [], ◌∷◌, length, ◌⊎◌, inl, inr, refl, ap, sym, ◌∙◌, add-mul, zero-add, add-zero, mul-le-mul_right, arith}
+use Rattle.std.proofs.Math.Nat.{suc-add}
 use Rattle.std.specs.Prelude.{pos, ◌-ℤ◌, FitsSigned}
 use Rattle.std.specs.Int.{w64}
 use Rattle.std.specs.List.{All}
@@ -252,7 +253,7 @@ module _ {rack : Rack} (ok : IsRack rack) (dates : ℕ → ℕ → Bool) (b : Bo
       row_spans = few_spans (rack.grain * D) rack.models (λ k. mark (k + 1)) (λ k. stands_on p (rack.pieces (k + 1))) row is.tiles (λ x some l change. let w = marked x some l change in (w.0, (w.1.0, w.1.1.0, w.1.1.1)))
 
 -- on how many of the n workers from p on a model stands
-abbrev stands : ℕ → ℕ → Pieces → ℕ
+abbrev pub stands : ℕ → ℕ → Pieces → ℕ
 stands zero p x = 0
 stands (suc n) p x = cond (stands_on p x) 1 0 + stands n (p + 1) x
 
@@ -265,21 +266,32 @@ stands_twice (suc n) p (Divided worker first second) = let rest = stands_twice n
 stands_few : (n p : ℕ) (x : Pieces) → stands n p x ≤ 1 + cond (is_divided x) 1 0
 stands_few n p x = let rest = stands_twice n p x in grind (arith, nat_tests)
 
+-- on m workers from p on, and on the n behind them
+pub stands_split : (m n p : ℕ) (x : Pieces) → stands (m + n) p x ≡ stands m p x + stands n (p + m) x
+stands_split zero n p x = omega (arith, ap (λ k. stands k p x) (zero-add n), ap (λ q. stands n q x) (add-zero p))
+stands_split (suc m) n p x =
+    let there : stands n (p + suc m) x ≡ stands n (p + 1 + m) x = ap (λ q. stands n q x) (omega arith) in
+    omega (arith, ap (λ k. stands k p x) (suc-add m n), there, stands_split m n (p + 1) x)
+
+-- each model stands on one worker, and a divided one on another
+pub models_stand : {rack : Rack} → IsRack rack → (n p : ℕ) → total rack.models (λ k. stands n p (rack.pieces (k + 1))) ≤ 95
+models_stand {rack} ok n p =
+    let m = rack.models in
+    let each = total_le m (λ k. stands n p (rack.pieces (k + 1))) (λ k. 1 + cond (is_divided (rack.pieces (k + 1))) 1 0) (λ k l. stands_few n p (rack.pieces (k + 1))) in
+    omega (arith, each, total_add m (λ k. 1) (λ k. cond (is_divided (rack.pieces (k + 1))) 1 0), total_le_all m 1 (λ k. 1) (λ k l. omega arith), few_divided ok, ok.few_models)
+
 module _ {rack : Rack} (ok : IsRack rack) (dates : ℕ → ℕ → Bool) (b : Book) (precedes : Run → Run → Bool) (order : OrderLaws (λ (r : Run). r.model) (λ (r : Run). r.deadline) precedes) (D : ℕ) where
-  rows_spans : (p : ℕ) (rows : List Row) → AreRows rack dates precedes b D p rows → spans_in rows ≤ length rows + total rack.models (λ k. stands (length rows) p (rack.pieces (k + 1)))
+  pub rows_spans : (p : ℕ) (rows : List Row) → AreRows rack dates precedes b D p rows → spans_in rows ≤ length rows + total rack.models (λ k. stands (length rows) p (rack.pieces (k + 1)))
   rows_spans p [] are = omega arith
   rows_spans p (row ∷ rows) are =
       omega (arith, row_spans ok dates b precedes D p order row are.0, rows_spans (p + 1) rows are.1, total_add rack.models (λ k. cond (stands_on p (rack.pieces (k + 1))) 1 0) (λ k. stands (length rows) (p + 1) (rack.pieces (k + 1))))
 
-  -- rows have at most one span each, one for each model, and one for each divided model
+  -- rows have at most one span each, and one for each time that a model stands on a worker
   pub spans_few : (p : ℕ) (rows : List Row) → AreRows rack dates precedes b D p rows → spans_in rows ≤ length rows + 95
-  spans_few p rows are =
-      let n = rack.models in
-      let each = total_le n (λ k. stands (length rows) p (rack.pieces (k + 1))) (λ k. 1 + cond (is_divided (rack.pieces (k + 1))) 1 0) (λ k l. stands_few (length rows) p (rack.pieces (k + 1))) in
-      omega (arith, rows_spans p rows are, each, total_add n (λ k. 1) (λ k. cond (is_divided (rack.pieces (k + 1))) 1 0), total_le_all n 1 (λ k. 1) (λ k l. omega arith), few_divided ok, ok.few_models)
+  spans_few p rows are = omega (arith, rows_spans p rows are, models_stand ok (length rows) p)
 
   -- no length, end or model of these rows is above a bound on 65 and on the interval's parts
-  rows_within : (B p : ℕ) (rows : List Row) → 65 ≤ B → rack.grain * D ≤ B → AreRows rack dates precedes b D p rows
+  pub rows_within : (B p : ℕ) (rows : List Row) → 65 ≤ B → rack.grain * D ≤ B → AreRows rack dates precedes b D p rows
       → All (λ (row : Row). (length row ≤ B) × All (λ (span : Span). (span.end ≤ B) × (span.model ≤ B)) row) rows
   rows_within B p [] some long are = All-nil (λ (row : Row). (length row ≤ B) × All (λ (span : Span). (span.end ≤ B) × (span.model ≤ B)) row)
   rows_within B p (row ∷ rows) some long are =

@@ -3,8 +3,8 @@ use Rattle.std.proofs.Common.{◌≡◌, ℕ, ◌+◌, List, [], ◌∷◌, ◌+
 use Rattle.std.proofs.lemmas.List.{length-map}
 use Rattle.std.proofs.lemmas.List.Sums.{sum_by-cons}
 use Rattle.std.specs.List.{flat_map}
-use Rattle.book.specs.Sheets.{Row, Span, Sheet, words_of}
-use Rattle.book.specs.Reading.{row_from, rows_from, rows_in}
+use Rattle.book.specs.Sheets.{Row, Span}
+use Rattle.book.specs.Reading.{row_from, rows_from}
 use Rattle.book.specs.Laws.{WordsRead}
 
 abbrev ends_of : Row → List ℕ

@@ -1,11 +1,12 @@
 -- Rows: one says who has a worker at each part, and no other does.
-use Rattle.std.proofs.Common.{◌≡◌, ◌≢◌, ℕ, zero, suc, ◌+◌, ◌-◌, ◌*◌, ◌<◌, ◌≤◌, Bool, true, false, cond, ◌&&◌, List, [], ◌∷◌, ◌++◌, length, map, inl, inr, refl, sym, ◌∙◌, ap, arith, length-append}
+use Rattle.std.proofs.Common.{◌≡◌, ◌≢◌, ℕ, zero, suc, ◌+◌, ◌-◌, ◌*◌, ◌<◌, ◌≤◌, Bool, true, false, cond, ◌&&◌, List, [], ◌∷◌, ◌++◌, length, map, sum, inl, inr, refl, sym, ◌∙◌, ap, arith, length-append}
 use Rattle.std.specs.Bool.{IsTrue}
 use Rattle.std.specs.Prelude.{◌==◌}
 use Rattle.std.specs.List.{All, flat_map}
 use Rattle.std.proofs.lemmas.Bool.{cases_lt, cases_eq, cases_Bool, lt-ltb, le-ltb, eq-eqb, ne_eqb, false_from_ne_true}
 use Rattle.std.proofs.lemmas.Bool.Decides.{nat_tests}
 use Rattle.std.proofs.lemmas.List.{length-map}
+use Rattle.std.proofs.lemmas.List.Sums.{sum_by-cons}
 use Rattle.std.proofs.lemmas.List.Elements.{All-nil, All-cons, All-head, All-tail, All-append, All-map, All-weaker}
 use Rattle.book.specs.Sums.{total, latest}
 use Rattle.book.specs.Sheets.{Span, Row, Sheet, holder, Tiles, words_of, Says}
@@ -232,6 +233,12 @@ models_within len n has row s known = models_by_holders 0 len n row s.tiles (λ 
 abbrev pub spans_in : List Row → ℕ
 spans_in [] = 0
 spans_in (row ∷ rows) = length row + spans_in rows
+
+pub spans_sum : (rows : List Row) → spans_in rows ≡ sum (map {A = Row} length rows)
+spans_sum [] = refl
+spans_sum (row ∷ rows) =
+    let more : sum (map {A = Row} length (row ∷ rows)) ≡ length row + sum (map {A = Row} length rows) = sum_by-cons (λ x. x) (length row) (map {A = Row} length rows) in
+    omega (arith, more, spans_sum rows)
 
 -- one word of each span
 words_of_spans : (f : Span → ℕ) (rows : List Row) → length (flat_map (map f) rows) ≡ spans_in rows

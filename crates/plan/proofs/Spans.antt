@@ -23,7 +23,7 @@ module _ (alone k : ℕ) (some : 1 ≤ k) where
   group_some : (p : ℕ) → 1 ≤ p → 1 ≤ group_of alone k p
   group_some p h = ⊎_elim (λ (lt : alone < p). omega (arith, group_high p lt)) (λ (le : p ≤ alone). omega (arith, group_low p le)) (cases_lt alone p)
 
-  group_rises : (p q : ℕ) → p ≤ q → group_of alone k p ≤ group_of alone k q
+  pub group_rises : (p q : ℕ) → p ≤ q → group_of alone k p ≤ group_of alone k q
   group_rises p q h =
       ⊎_elim
       (λ (lt : alone < p). omega (arith, group_high p lt, group_high q (omega arith), quotient_rises (p - alone - 1) (q - alone - 1) (omega arith)))
@@ -115,3 +115,12 @@ module _ (alone k : ℕ) (some : 1 ≤ k) where
         (λ (low : g ≤ alone). (g, (from_one, low_within m g low (omega arith), group_low g low)))
         (cases_lt alone g);
   }
+
+  -- there are as many groups as the number of the last worker's
+  pub counts_top : (m count : ℕ) → 1 ≤ m → Counts (group_of alone k) m count → count ≡ group_of alone k m
+  counts_top m count some-m c =
+      let last = c.every m some-m (omega arith) in
+      ⊎_elim
+      (λ (high : group_of alone k m < count). let there = c.each count (omega (arith, last)) (omega arith) in absurd (omega (arith, group_rises there.0 m there.1.1, there.1.2)))
+      (λ (low : count ≤ group_of alone k m). omega (arith, last))
+      (cases_lt (group_of alone k m) count)

@@ -1,1 +1,2 @@
 pub mod Firsts
+pub mod Fine
