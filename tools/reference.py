@@ -1,11 +1,14 @@
 """A second implementation of reading, placing and printing a set file, to compare with.
 
-Run it with a set file on standard input: it prints what the program `print` should print.
+    python3 tools/reference.py FILE ..
+
+prints of each file what the program `print` should print of it; with no file, of standard input.
 It shares no code with the proved crates, but its author wrote those too: it guards against slips, not against
 a rule that was misunderstood.
 """
 import struct
 import sys
+from pathlib import Path
 
 
 class Refused(Exception):
@@ -35,6 +38,27 @@ def read_set(data):
         if not 1 <= cost <= period:
             raise Refused(5, "set", model)
     return workers, group_size, grain, costs, periods
+
+
+def file_of(sizes, costs, periods):
+    """The set file of these figures, which may be at fault."""
+    return struct.pack(f"<{4 + 2 * len(costs)}I", len(costs), *sizes, *costs, *periods)
+
+
+def checked(sizes, costs, periods):
+    """The sizes, costs and periods of a set, or the first fault of these figures."""
+    if len(costs) != len(periods):
+        raise Refused(3, "set", 1)
+    return read_set(file_of(sizes, costs, periods))
+
+
+def written(sizes, costs, periods, room):
+    """What is answered where the file of a set is to be written to so many bytes: its size and its digits."""
+    checked(sizes, costs, periods)
+    data = file_of(sizes, costs, periods)
+    if room < len(data):
+        raise Refused(1, "file", room)
+    return f"{len(data)} {data.hex()}"
 
 
 def weights_of(grain, costs, periods):
@@ -85,6 +109,62 @@ def place(workers, group_size, grain, costs, periods):
     return pieces
 
 
+def groups_of(workers, group_size, grain, costs, periods):
+    """The workers of each group."""
+    alone = sum(heavy_in(workers, group_size, grain, weights_of(grain, costs, periods)))
+    others = range(alone + 1, workers + 1)
+    return [range(worker, worker + 1) for worker in range(1, alone + 1)] + [
+        others[start : start + group_size] for start in range(0, len(others), group_size)
+    ]
+
+
+def held_on(worker, ticks, grain, costs, periods, pieces):
+    """From where to where models have a worker in these first ticks, as (start, end, model)."""
+    opens, closes = 0, grain * ticks
+    runs = []
+    for model, shares in enumerate(pieces, start=1):
+        for place, (at, size) in enumerate(shares):
+            if at != worker:
+                continue
+            if len(shares) == 1:
+                runs.append((periods[model - 1], model))
+            elif place == 0:
+                opens = size * ticks
+                yield 0, opens, model
+            else:
+                closes = (grain - size) * ticks
+                yield closes, grain * ticks, model
+    for run in runs:
+        start = opens + sum(costs[model - 1] * grain for deadline, model in runs if (deadline, model) < run)
+        end = min(start + costs[run[1] - 1] * grain, closes)
+        if start < end:
+            yield start, end, run[1]
+
+
+def row_of(held, parts):
+    """The spans of a worker, as (end, model): model 0 fills what nobody holds."""
+    spans, past = [], 0
+    for start, end, model in [*sorted(held), (parts, parts, None)]:
+        if past < start:
+            spans.append((start, 0))
+        if start < end:
+            spans.append((end, model))
+        past = end
+    return spans
+
+
+def group_lines(group, workers, grain, costs, periods, pieces):
+    """What is printed of a group: its first interval, from 0 to the first later date of one of its models."""
+    ticks = min((period for period, shares in zip(periods, pieces) if shares[0][0] in workers), default=None)
+    if ticks is None:
+        yield f"rest {group}"
+        return
+    yield f"group {group} 0 {ticks}"
+    for worker in workers:
+        row = row_of(held_on(worker, ticks, grain, costs, periods, pieces), grain * ticks)
+        yield " ".join(["row", str(worker), *(f"{end}:{model}" for end, model in row)])
+
+
 def text_of(data):
     """All that is printed of a file."""
     try:
@@ -103,9 +183,16 @@ def text_of(data):
         for model, shares in enumerate(pieces, start=1)
         for worker, size in shares
     ]
+    for group, group_workers in enumerate(groups_of(workers, group_size, grain, costs, periods), start=1):
+        lines += group_lines(group, group_workers, grain, costs, periods, pieces)
     lines.append("end")
     return "".join(line + "\n" for line in lines)
 
 
+def main(names):
+    files = [Path(name).read_bytes() for name in names] if names else [sys.stdin.buffer.read()]
+    sys.stdout.writelines(map(text_of, files))
+
+
 if __name__ == "__main__":
-    sys.stdout.write(text_of(sys.stdin.buffer.read()))
+    main(sys.argv[1:])

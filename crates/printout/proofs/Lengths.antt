@@ -1,11 +1,18 @@
--- How long lines are, for callers that must bring the room.
-use Rattle.std.proofs.Common.{ℕ, ◌+◌, ◌*◌, ◌^◌, ◌<◌, ◌≤◌, List, [], ◌∷◌, ◌++◌, length, arith}
+-- How long lines are, and texts that are put together from one for each element.
+use Rattle.std.proofs.Common.{ℕ, ◌+◌, ◌*◌, ◌^◌, ◌<◌, ◌≤◌, List, [], ◌∷◌, ◌++◌, length, mul-suc, arith}
 use Rattle.std.specs.List.{flat_map, AllByRecursion}
 use Rattle.std.proofs.lemmas.Fmt.{length-decimal-le}
 use Rattle.std.proofs.ByRecursion.{All-weaker}
 use Rattle.std.proofs.lemmas.List.{length-append}
 use Rattle.printout.specs.Lines.{spaced, line_of}
-use Rattle.printout.proofs.Joins.{length_joined_le}
+
+module _ {X A : Type 0} (f : X → List A) where
+  pub length_joined_le : (c : ℕ) (xs : List X) → AllByRecursion (λ x. length (f x) ≤ c) xs → length (flat_map f xs) ≤ c * length xs
+  length_joined_le c [] h = omega arith
+  length_joined_le c (x ∷ xs) h =
+      let one : length (f x) ≤ c = h.0 in
+      let more : length (flat_map f xs) ≤ c * length xs = length_joined_le c xs h.1 in
+      omega (arith, length-append (f x) (flat_map f xs), mul-suc c (length xs))
 
 pub length_spaced_le : (k n : ℕ) → 0 < k → n < 10 ^ k → n < 2 ^ 64 → length (spaced n) ≤ k + 1
 length_spaced_le k n some few small = let digits = length-decimal-le k n some few small in omega arith

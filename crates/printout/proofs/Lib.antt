@@ -1,9 +1,14 @@
-pub mod Joins
 pub mod Lengths
 pub mod Pages
-pub mod Words
+pub mod Begun
 pub mod Counts
 pub mod Tables
+pub mod Rows
+pub mod Sheets
 pub mod Sizes
+pub mod Rooms
+pub mod Given
+pub mod Advances
+pub mod Plans
 pub mod Ones
 pub mod Prints

@@ -1,19 +1,32 @@
--- A file has one text.
-use Rattle.std.proofs.Common.{◌≡◌, ℕ, zero, suc, ◌+◌, ◌<◌, ◌≤◌, List, [], ◌∷◌, ◌++◌, get_or, Some, Ok, Err, codes, Option, Result, sym, refl, ap, ◌∙◌, subst, arith}
+-- A plan has one text, and a file has one.
+use Rattle.std.proofs.Common.{◌≡◌, ℕ, zero, suc, ◌+◌, ◌-◌, ◌<◌, ◌≤◌, List, [], ◌∷◌, ◌++◌, get_or, Some, Ok, Err, codes, Option, Result, inl, inr, sym, refl, ap, ◌∙◌, subst, arith}
 use Rattle.std.specs.List.{range_with_len, flat_map}
+use Rattle.std.proofs.lemmas.Bool.{cases_lt}
+use Rattle.order.specs.Keys.{by_keys}
+use Rattle.kinds.specs.Keys.{keys_by_model}
 use Rattle.refusal.specs.declared.Refusal.{Refusal}
 use Rattle.refusal.specs.Refusals.{Complaint, told}
 use Rattle.refusal.proofs.Firsts.{not_both}
 use Rattle.set.specs.declared.sets.Set.{Set}
-use Rattle.set.specs.Sets.{models_of, worker_count_of}
+use Rattle.set.specs.Sets.{models_of, worker_count_of, grain_of, period_of, parts_of, weight_of}
 use Rattle.setfile.specs.Reading.{Reads}
 use Rattle.setfile.proofs.Files.{one_set}
 use Rattle.plan.specs.declared.plans.Plan.{Plan}
 use Rattle.plan.specs.Shares.{pieces_at, carried}
-use Rattle.placement.specs.Placing.{Follows, Places, PlacesRead, PlacesFile}
+use Rattle.plan.specs.Groups.{group_in}
+use Rattle.placement.specs.Placing.{Follows, Places, PlacesRead}
 use Rattle.placement.proofs.Carries.{carried_same}
+use Rattle.calendars.specs.Periods.{own_dates}
+use Rattle.book.specs.Racks.{Rack, rack_of}
+use Rattle.book.specs.Books.{blank}
+use Rattle.book.specs.Calls.{Answer, Leads}
 use Rattle.printout.specs.Lines.{line_of}
-use Rattle.printout.specs.Texts.{complaint_text, pieces_text, sizes_text, load_text, loads_text, model_text, models_text, plan_text, text_of}
+use Rattle.printout.specs.Printing.{one_of_each, first_advances, IsPlanText, IsText, IsFileText}
+use Rattle.printout.specs.Texts.{complaint_text, pieces_text, sizes_text, load_text, loads_text, model_text, models_text, answer_text, plan_text, refusal_text}
+
+-- a plan's calls have one list of answers, so it has one text
+pub one_text : (plan : Plan) (text other : List ℕ) → IsPlanText plan text → IsPlanText plan other → other ≡ text
+one_text plan text other is is' = is'.tells ∙ ap (plan_text plan) (is.answered.only is'.answered.answers is'.answered.end is'.answered.led).0 ∙ sym is.tells
 
 joined_same : (f g : ℕ → List ℕ) (a n : ℕ) → ((i : ℕ) → a ≤ i → i < a + n → f i ≡ g i) → flat_map f (range_with_len a n) ≡ flat_map g (range_with_len a n)
 joined_same f g a zero same = refl
@@ -50,25 +63,62 @@ module _ (set : Set) (p q : Plan) (fp : Follows set p) (fq : Follows set q) wher
       joined_same (model_text p) (model_text q) 0 (models_of p.set) (λ i low high. ap (pieces_text (i + 1)) (one_model i (omega (arith, ap models_of fp.same))))
       ∙ ap (λ n. flat_map (model_text q) (range_with_len 0 n)) (ap models_of same_set)
 
-  one_plan : plan_text p ≡ plan_text q
-  one_plan =
-      let sizes : sizes_text p ≡ sizes_text q = ap (λ (s : Set). line_of (codes "plan") (s.sizes.models ∷ (s.sizes.workers ∷ (s.sizes.group_size ∷ (s.sizes.grain ∷ []))))) same_set in
-      λ k. sizes k ++ (one_loads k ++ (one_models k ++ line_of (codes "end") []))
+  one_sizes : sizes_text p ≡ sizes_text q
+  one_sizes = ap (λ (s : Set). line_of (codes "plan") (s.sizes.models ∷ (s.sizes.workers ∷ (s.sizes.group_size ∷ (s.sizes.grain ∷ []))))) same_set
+
+  -- with the same answers they have the same text
+  one_plan : (answers : List Answer) → plan_text p answers ≡ plan_text q answers
+  one_plan answers = λ k. one_sizes k ++ (one_loads k ++ (one_models k ++ (flat_map answer_text answers ++ line_of (codes "end") [])))
+
+  -- behind the last model both have nothing
+  one_slot : (i : ℕ) → pieces_at p.pieces i ≡ pieces_at q.pieces i
+  one_slot i = elim (cases_lt i (models_of set)) [
+    | inl among ↦ one_model i among
+    | inr behind ↦ fp.seated'.behind i behind ∙ sym (fq.seated'.behind i behind)
+  ]
+
+  -- so the book reads the same of them
+  one_rack : rack_of p ≡ rack_of q
+  one_rack = λ k. record {
+    models = models_of (same_set k);
+    workers = worker_count_of (same_set k);
+    grain = grain_of (same_set k);
+    group = group_in (same_set k);
+    period = λ i. period_of (same_set k) (i - 1);
+    parts = λ i. parts_of (same_set k) (i - 1);
+    weight = λ i. weight_of (same_set k) (i - 1);
+    pieces = λ i. one_slot (i - 1) k;
+  }
+
+  -- and they have the same text
+  one_plan_text : (text other : List ℕ) → IsPlanText p text → IsPlanText q other → other ≡ text
+  one_plan_text text other is is' =
+      let told = is.answered in
+      let calls = ap (λ (rack : Rack). one_of_each (rack.group rack.workers)) one_rack in
+      let led : Leads (rack_of q) (own_dates q.set) (by_keys keys_by_model) blank (first_advances q) told.answers told.end =
+      subst (λ cs. Leads (rack_of q) (own_dates q.set) (by_keys keys_by_model) blank cs told.answers told.end) calls
+      (subst (λ (s : Set). Leads (rack_of q) (own_dates s) (by_keys keys_by_model) blank (first_advances p) told.answers told.end) same_set
+      (subst (λ rack. Leads rack (own_dates p.set) (by_keys keys_by_model) blank (first_advances p) told.answers told.end) one_rack told.led)) in
+      is'.tells ∙ ap (plan_text q) (sym (is'.answered.only told.answers told.end led).0) ∙ sym (one_plan told.answers) ∙ sym is.tells
 
 some_same : (a : Option Complaint) (c d : Complaint) → a ≡ Some c → a ≡ Some d → c ≡ d
 some_same a c d p q = cc
 
-one_placing : (set : Set) (r s : Result Plan Refusal) → Places set r → Places set s → text_of r ≡ text_of s
-one_placing set (Ok p) (Ok q) fp fq = one_plan set p q fp.1 fq.1
-one_placing set (Ok p) (Err f) fp ff = absurd (not_both _ _ ff fp.0)
-one_placing set (Err e) (Ok q) fe fq = absurd (not_both _ _ fe fq.0)
-one_placing set (Err e) (Err f) fe ff = ap complaint_text (some_same _ (told e) (told f) fe ff)
+one_placing : (set : Set) (r s : Result Plan Refusal) (text other : List ℕ) → Places set r → Places set s → IsText r text → IsText s other → other ≡ text
+one_placing set (Ok p) (Ok q) text other fp fq is is' = one_plan_text set p q fp.1 fq.1 text other is is'
+one_placing set (Ok p) (Err f) text other fp ff is is' = absurd (not_both _ _ ff fp.0)
+one_placing set (Err e) (Ok q) text other fe fq is is' = absurd (not_both _ _ fe fq.0)
+one_placing set (Err e) (Err f) text other fe ff is is' = is' ∙ ap complaint_text (some_same _ (told f) (told e) ff fe) ∙ sym is
 
-one_reading : (bytes : List ℕ) (a b : Result Set Refusal) (r s : Result Plan Refusal) → Reads bytes a → Reads bytes b → PlacesRead a r → PlacesRead b s → text_of r ≡ text_of s
-one_reading bytes (Ok x) (Ok y) r s ra rb pa pb = one_placing x r s pa (subst (λ (t : Set). Places t s) (one_set bytes y x rb.1 ra.1) pb)
-one_reading bytes (Ok x) (Err f) r s ra rb pa pb = absurd (not_both _ _ rb ra.0)
-one_reading bytes (Err e) (Ok y) r s ra rb pa pb = absurd (not_both _ _ ra rb.0)
-one_reading bytes (Err e) (Err f) r s ra rb pa pb = ap text_of pa ∙ (ap complaint_text (some_same _ (told e) (told f) ra rb) ∙ sym (ap text_of pb))
+one_reading : (bytes : List ℕ) (a b : Result Set Refusal) (r s : Result Plan Refusal) (text other : List ℕ) → Reads bytes a → Reads bytes b → PlacesRead a r → PlacesRead b s
+    → IsText r text → IsText s other → other ≡ text
+one_reading bytes (Ok x) (Ok y) r s text other ra rb pa pb is is' = one_placing x r s text other pa (subst (λ (t : Set). Places t s) (one_set bytes y x rb.1 ra.1) pb) is is'
+one_reading bytes (Ok x) (Err f) r s text other ra rb pa pb is is' = absurd (not_both _ _ rb ra.0)
+one_reading bytes (Err e) (Ok y) r s text other ra rb pa pb is is' = absurd (not_both _ _ ra rb.0)
+one_reading bytes (Err e) (Err f) r s text other ra rb pa pb is is' =
+    let first : text ≡ refusal_text e = rw pa at is in
+    let second : other ≡ refusal_text f = rw pb at is' in
+    second ∙ ap complaint_text (some_same _ (told f) (told e) rb ra) ∙ sym first
 
-pub one_text : (bytes : List ℕ) (r s : Result Plan Refusal) → PlacesFile bytes r → PlacesFile bytes s → text_of r ≡ text_of s
-one_text bytes r s a b = one_reading bytes a.read b.read r s a.reads b.reads a.places b.places
+pub one_file_text : (bytes text other : List ℕ) → IsFileText bytes text → IsFileText bytes other → other ≡ text
+one_file_text bytes text other a b = one_reading bytes a.places.read b.places.read a.placed b.placed text other a.places.reads b.places.reads a.places.places b.places.places a.tells b.tells

@@ -1,11 +1,8 @@
 -- One text after another on a page.
-use Rattle.std.proofs.Common.{◌≡◌, ℕ, ◌+◌, ◌<◌, ◌≤◌, List, [], ◌++◌, length, get_or, take, drop, sym, ap, ◌∙◌, subst, arith}
-use Rattle.std.specs.List.{flat_map}
+use Rattle.std.proofs.Common.{◌≡◌, ℕ, ◌+◌, ◌≤◌, List, [], ◌++◌, length, take, drop, take-append-drop, sym, ap, ◌∙◌, subst, refl, arith}
 use Rattle.std.proofs.lemmas.List.{append_assoc, length-append, length-take-le, length-drop, take_at, drop_at, drop-drop}
-use Rattle.std.proofs.lemmas.List.Folds.{length-flat_map-take}
 use Rattle.printout.specs.declared.page.Page.{Page}
-use Rattle.printout.specs.Pages.{memory, Appends}
-use Rattle.printout.proofs.Joins.{joined_next}
+use Rattle.printout.specs.Pages.{memory, HasRoom, Appends}
 
 -- what is written is just the text; behind it the memory is as it was when it held old
 pub record Holds (text old : List ℕ) (p : Page) : Type 0 where
@@ -33,6 +30,10 @@ room_left p q s k h fits =
     let same = same_room p q s h in
     let longer : q.len ≡ p.len + length s = h.longer in
     omega arith
+
+-- room behind a text that is not too long
+pub room_behind : (p q : Page) (s : List ℕ) (n k : ℕ) → HasRoom p (n + k) → length s ≤ n → Appends p s q → HasRoom q k
+room_behind p q s n k room short h = room_left p q s k h (omega (arith, room))
 
 pub appends_same : (p q : Page) (s t : List ℕ) → s ≡ t → Appends p s q → Appends p t q
 appends_same p q s t e h = subst (λ (text : List ℕ). Appends p text q) e h
@@ -87,10 +88,11 @@ holds_append t s old p q g h =
           ∙ (λ k. (t ++ s) ++ (drop-drop (length s) (length t) old ∙ ap (λ n. drop n old) (sym both)) k);
     }
 
--- a loop that appends a text for each element, behind what was written before it
-module _ {X : Type 0} (f : X → List ℕ) (xs : List X) (i : ℕ) (d : X) (p q : Page) (h : i < length xs) (before : Appends p (flat_map f (take i xs)) q) where
-  pub each_fits : p.len + length (flat_map f xs) ≤ length (memory p) → q.len + length (f (get_or xs i d)) ≤ length (memory q)
-  each_fits fits = room_left p q (flat_map f (take i xs)) (length (f (get_or xs i d))) before (omega (arith, length-flat_map-take f xs i d h))
-
-  pub each_more : (r : Page) → Appends q (f (get_or xs i d)) r → Appends p (flat_map f (take (i + 1) xs)) r
-  each_more r a = appends_same p r _ _ (joined_next f [] xs i d h) (appends_append p q r (flat_map f (take i xs)) (f (get_or xs i d)) before a)
+-- nothing is written
+pub appends_none : (p : Page) → p.len ≤ length (memory p) → Appends p [] p
+appends_none p fits = record {
+  fits = omega (arith, fits);
+  longer = omega arith;
+  after = sym (take-append-drop p.len (memory p)) ∙ ap (λ n. take p.len (memory p) ++ drop n (memory p)) (omega arith);
+  lent = refl;
+}

@@ -1,5 +1,5 @@
--- Every text fits the least memory.
-use Rattle.std.proofs.Common.{◌≡◌, ℕ, zero, suc, ◌+◌, ◌*◌, ◌/◌, ◌%◌, ◌^◌, ◌<◌, ◌≤◌, Bool, true, false, eqb, List, [], ◌∷◌, ◌++◌, length, get_or, Ok, Err, codes, decimal, Result, ap, ⊎_elim, le_trans, zero-add, arith, lit≤}
+-- How long the parts of a text are, but for the groups.
+use Rattle.std.proofs.Common.{◌≡◌, ℕ, zero, suc, ◌+◌, ◌*◌, ◌/◌, ◌%◌, ◌^◌, ◌<◌, ◌≤◌, Bool, true, false, eqb, List, [], ◌∷◌, ◌++◌, length, get_or, codes, decimal, ap, ⊎_elim, le_trans, zero-add, arith, lit≤}
 use Rattle.std.specs.List.{range_with_len, flat_map}
 use Rattle.std.specs.Fmt.{digits, digits_onto, digit_glyph}
 use Rattle.std.proofs.lemmas.List.FromFn.{length-range_with_len, get_or-range_with_len}
@@ -16,9 +16,8 @@ use Rattle.plan.specs.declared.pieces.Pieces.TheVariants.{Whole, Divided}
 use Rattle.plan.specs.declared.plans.Plan.{Plan}
 use Rattle.plan.specs.Shares.{last_of, first_of, second_of, pieces_at}
 use Rattle.printout.specs.Lines.{line_of}
-use Rattle.printout.specs.Texts.{refusal_text, pieces_text, sizes_text, load_text, loads_text, model_text, models_text, plan_text, text_of}
-use Rattle.printout.proofs.Joins.{length_joined_le}
-use Rattle.printout.proofs.Lengths.{length_line_le}
+use Rattle.printout.specs.Texts.{refusal_text, pieces_text, sizes_text, load_text, loads_text, model_text, models_text}
+use Rattle.printout.proofs.Lengths.{length_joined_le, length_line_le}
 
 -- no number has more than 64 digits as it is written
 spelled_most : (k base : ℕ) (upper : Bool) (n : ℕ) (acc : List ℕ) → length (digits_onto k base upper n acc) ≤ k + length acc
@@ -45,7 +44,7 @@ word_most Agenda = omega arith
 append_most : (s t : List ℕ) (a b : ℕ) → length s ≤ a → length t ≤ b → length (s ++ t) ≤ a + b
 append_most s t a b h k = omega (arith, length-append s t)
 
-refusal_most : (e : Refusal) → length (refusal_text e) ≤ 16384
+pub refusal_most : (e : Refusal) → length (refusal_text e) ≤ 16384
 refusal_most e =
     let number = decimal (number_of e.fault) in
     let word = word_of e.layer in
@@ -68,7 +67,7 @@ each_most f c n each =
     at i h = rw (get_or-range_with_len 0 n i 0 h, zero-add i) (each i h)
 
 module _ (plan : Plan) where
-  sizes_most : length (sizes_text plan) ≤ 33
+  pub sizes_most : length (sizes_text plan) ≤ 33
   sizes_most =
       let s = plan.set.sizes in
       length_line_le 6 (codes "plan") (s.models ∷ (s.workers ∷ (s.group_size ∷ (s.grain ∷ [])))) (omega arith) (lit≤ tt)
@@ -99,19 +98,8 @@ module _ (plan : Plan) where
       let weight = (weighs plan.set i h).fits in
       pieces_most (i + 1) (pieces_at plan.pieces i) (omega arith) (omega (arith, share.1)) (omega (arith, share.2))
 
-  plan_most : length (plan_text plan) ≤ 16384
-  plan_most =
-      let few = plan.set.sizes.few_models in
-      let few-workers = plan.set.sizes.few_workers in
-      let loads : length (loads_text plan) ≤ 608 = omega (arith, each_most (load_text plan) 19 plan.set.sizes.workers load_most) in
-      let models : length (models_text plan) ≤ 3456 = omega (arith, each_most (model_text plan) 54 plan.set.sizes.models model_most) in
-      let end : List ℕ = line_of (codes "end") [] in
-      let all : length (plan_text plan) ≤ 33 + (608 + (3456 + 4)) =
-      append_most (sizes_text plan) (loads_text plan ++ (models_text plan ++ end)) 33 (608 + (3456 + 4)) sizes_most
-      (append_most (loads_text plan) (models_text plan ++ end) 608 (3456 + 4) loads
-      (append_most (models_text plan) end 3456 4 models (omega arith))) in
-      le_trans all (lit≤ tt)
+  pub loads_most : length (loads_text plan) ≤ 608
+  loads_most = let few = plan.set.sizes.few_workers in omega (arith, each_most (load_text plan) 19 plan.set.sizes.workers load_most)
 
-pub text_most : (r : Result Plan Refusal) → length (text_of r) ≤ 16384
-text_most (Ok plan) = plan_most plan
-text_most (Err e) = refusal_most e
+  pub models_most : length (models_text plan) ≤ 3456
+  models_most = let few = plan.set.sizes.few_models in omega (arith, each_most (model_text plan) 54 plan.set.sizes.models model_most)

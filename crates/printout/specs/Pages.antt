@@ -1,5 +1,6 @@
 -- What a clause says of a page.
 --     memory p      all of the lent bytes, written or not
+--     HasRoom p n      there is room for n bytes behind what p has written
 --     Fits p text      the text has room behind what p has written
 --     Appends p text q      the text had room; q, over the same lent bytes, has it there, and every other byte as p has it
 use Rattle.std.specs.Prelude.{◌≡◌, ℕ, ◌+◌, ◌≤◌, List, ◌++◌, length, take, drop}
@@ -7,6 +8,9 @@ use Rattle.printout.specs.declared.page.Page.{Page}
 
 abbrev pub memory : Page → List ℕ
 memory p = p.bytes.now
+
+abbrev pub HasRoom : Page → ℕ → Type 0
+HasRoom p n = p.len + n ≤ length (memory p)
 
 abbrev pub Fits : Page → List ℕ → Type 0
 Fits p text = p.len + length text ≤ length (memory p)

@@ -1,7 +1,10 @@
 //! The lines of the text, one function for each part of it.
-ghost use Rattle.printout.specs.Pages.{Fits, Appends};
-ghost use Rattle.printout.specs.Texts.{refusal_text, pieces_text, loads_text, models_text, plan_text, text_of};
+ghost use Rattle.printout.specs.Pages.{Fits, HasRoom, Appends};
+ghost use Rattle.printout.specs.Texts.{refusal_text, pieces_text, loads_text, models_text};
+ghost use Rattle.printout.specs.Printing.{IsPlanText, IsText};
+ghost use Rattle.printout.specs.Showing.{Shows};
 
+use crate::groups::group_lines;
 use crate::page::Page;
 use plan::pieces::Pieces;
 use plan::plans::Plan;
@@ -62,9 +65,9 @@ fn model_lines(page: &mut Page<'_>, plan: &Plan)
 }
 
 /// All lines of a plan.
-fn plan_lines(page: &mut Page<'_>, plan: &Plan)
-    requires { Fits page.old (plan_text plan.now) }
-    ensures { Appends page.old (plan_text plan.now) page.new }
+pub(crate) fn plan_lines(page: &mut Page<'_>, plan: &Plan)
+    requires { HasRoom page.old 16384 }
+    ensures { Shows (IsPlanText plan.now) page.old page.new }
 {
     let sizes = plan.set.sizes;
     page.line(
@@ -78,13 +81,14 @@ fn plan_lines(page: &mut Page<'_>, plan: &Plan)
     );
     load_lines(page, plan);
     model_lines(page, plan);
+    group_lines(page, plan);
     page.line("end", &[]);
 }
 
 /// All lines of what placing a file gave.
 pub(crate) fn text_lines(page: &mut Page<'_>, placed: Result<Plan, Refusal>)
-    requires { Fits page.old (text_of placed) }
-    ensures { Appends page.old (text_of placed) page.new }
+    requires { HasRoom page.old 16384 }
+    ensures { Shows (IsText placed) page.old page.new }
 {
     match placed {
         Ok(plan) => plan_lines(page, &plan),

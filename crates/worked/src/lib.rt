@@ -18,6 +18,8 @@ mod piles;
 #[cfg(test)]
 mod plans;
 #[cfg(test)]
+mod printouts;
+#[cfg(test)]
 mod questions;
 #[cfg(test)]
 mod queues;
