@@ -1,17 +1,9 @@
-"""A second implementation of calendars and agendas, to compare with: the dates of a model are ranges, and an agenda is a sorted set.
-
-Run it with lines for the program `dated` on standard input: it prints what that program should print.
-"""
-import sys
+"""A second implementation of calendars and agendas, to compare with: the dates of a model are ranges, and an agenda is a sorted set."""
 from bisect import bisect_left
 
 # dates are below this tick, which is also the spacing of a phase with the period 0 and of what is no model
 END = 2**30
 MODELS = range(1, 65)
-
-
-def numbers(text, mark=","):
-    return [int(number) for number in text.split(mark)]
 
 
 def within(ticks, start, end):
@@ -44,12 +36,18 @@ class Pile:
         return self.spacings.get(model, END)
 
     def earliest(self, model, start):
+        """The earliest date at or after a tick, or None."""
         ranges = (within(ticks, start, END) for ticks in self.dates.get(model, []))
-        return next((ticks[0] for ticks in ranges if ticks), "none")
+        return next((ticks[0] for ticks in ranges if ticks), None)
 
-    def agenda(self, span, lent):
-        (start, end), (room, scratch) = span, lent
-        table = ["-"] * room
+    def latest(self, model, tick):
+        """The latest date up to a tick, or None."""
+        ranges = (within(ticks, 0, tick + 1) for ticks in reversed(self.dates.get(model, [])))
+        return next((ticks[-1] for ticks in ranges if ticks), None)
+
+    def agenda(self, start, end, room, scratch):
+        """The number of dates from one tick up to another, or a refusal, and the table as it is then."""
+        table = ["_"] * room
         if start > end or end > END:
             answer = "refused 15 agenda 0"
         elif scratch < len(MODELS):
@@ -61,75 +59,39 @@ class Pile:
             things = [f"{model}@{tick}" for tick, model in sorted(dates)]
             table[:len(things)] = things[:room]
             answer = len(things) if len(things) <= room else f"refused 16 agenda {room}"
-        return " ".join([str(answer), *table])
+        return f"{answer} | {' '.join(table)}"
 
+    @classmethod
+    def of_phases(cls, phases):
+        """The pile of these firsts and periods, and what is answered to its line."""
+        pile = cls()
+        for model, (first, period) in enumerate(phases, start=1):
+            if period > 0:
+                pile.dates[model] = [range(first, END, period)]
+                pile.spacings[model] = period
+        return pile, "ok"
 
-def phase_pile(words):
-    pile = Pile()
-    for word in words:
-        model, phase = word.split(":")
-        first, period = numbers(phase)
-        if period > 0:
-            pile.dates[int(model)] = [range(first, END, period)]
-            pile.spacings[int(model)] = period
-    return pile
+    @classmethod
+    def of_list(cls, spacings, entries):
+        """The pile of a list of ticks and models, and what is answered to its line."""
+        pile, said = cls(), "ok"
+        pile.spacings = dict(enumerate(spacings, start=1))
+        for place, entry in enumerate(entries):
+            if not fits(entry, entries[:place], pile.spacings):
+                said = f"refused 14 calendar {place}"
+                entries = entries[:place]
+                break
+        for tick, model in entries:
+            pile.dates[model].append(range(tick, tick + 1))
+        return pile, said
 
 
 def fits(entry, before, spacings):
     """Whether an entry may stand behind those before it."""
-    model, tick = entry
+    tick, model = entry
     if tick >= END or model not in MODELS:
         return False
-    return all(tick >= past and (other != model or tick >= past + spacings[model]) for other, past in before)
-
-
-def list_pile(words):
-    """The pile of a list, and what is said of the list itself."""
-    pile, said = Pile(), "sound"
-    pile.spacings = {model: 0 for model in MODELS}
-    pile.spacings.update(numbers(word, ":") for word in words if ":" in word)
-    entries = [numbers(word, "@") for word in words if "@" in word]
-    for place, entry in enumerate(entries):
-        if not fits(entry, entries[:place], pile.spacings):
-            said = f"refused 14 calendar {place}"
-            entries = entries[:place]
-            break
-    for model, tick in entries:
-        pile.dates[model].append(range(tick, tick + 1))
-    return pile, said
-
-
-def pile_of(table, *layers):
-    """The pile of a table under these layers, and what is said of a list."""
-    kind, *words = table.split()
-    if kind == "phase":
-        pile, said = phase_pile(words), None
-    elif kind == "list":
-        pile, said = list_pile(words)
-    else:
-        raise ValueError(kind)
-    for layer in layers:
-        kind, values = layer.split()
-        {"delay": pile.delay, "closure": pile.closure}[kind](*numbers(values))
-    return pile, said
-
-
-def answer_of(line):
-    """The answers to the questions of one line."""
-    text, *questions = line.split("?")
-    pile, said = pile_of(*text.split("|"))
-    answers = [said] if said else []
-    for question in questions:
-        kind, *values = question.split()
-        if kind == "spacing":
-            answers.append(pile.spacing(int(values[0])))
-        elif kind == "earliest":
-            answers.append(pile.earliest(*numbers(values[0], "@")))
-        elif kind == "agenda":
-            answers.append(pile.agenda(*map(numbers, values)))
-        else:
-            raise ValueError(kind)
-    return "".join(f"{answer};" for answer in answers) + "\n"
+    return all(tick >= past and (other != model or tick >= past + spacings[model]) for past, other in before)
 
 
 def checksum_of(end, phases):
@@ -140,8 +102,3 @@ def checksum_of(end, phases):
     for tick, model in dates:
         checksum = (checksum * 0x9E3779B97F4A7C15 + (tick << 32 | model)) % 2**64
     return f"{len(dates)} {checksum}\n"
-
-
-if __name__ == "__main__":
-    for text in sys.stdin:
-        sys.stdout.write(answer_of(text))

@@ -1,26 +1,26 @@
 """Writes what the programs are run on in the gate, and what they must print.
 
-crates/cases has many set files in hexadecimal; crates/print has one that goes on for a megabyte; crates/served has
-lists of calls on queues; crates/dated has calendars that are asked; crates/played has seasons; crates/timed has
-agendas and crates/paced has rosters that tools/bench times. Run it at the repository's root. What is expected comes
-from tools/reference.py, tools/queue_reference.py, tools/calendar_reference.py and tools/roster_reference.py, and for
+crates/cases has many set files in hexadecimal; crates/print has one of the examples; crates/served has lists of calls
+on queues; crates/play has a script of calendars, rosters and sets; crates/timed has agendas and
+crates/paced has rosters that tools/bench times. Run it at the repository's root. What is expected comes from
+tools/reference.py, tools/queue_reference.py, tools/calendar_reference.py and tools/roster_reference.py, and for
 crates/paced from tools/bench/dispatch.rs, which rustc builds; never from the proved programs.
 """
 import random
 import struct
-from itertools import product
+from itertools import chain
 from pathlib import Path
 from tempfile import TemporaryDirectory
 
 from bench.jobs import AGENDAS, ROSTERS, count_of, line_of
 from bench.programs import answers_of, build_plain
-from calendar_reference import END, answer_of as calendar_answer_of, checksum_of
+from calendar_reference import checksum_of
+from laws import told, totals_of
+from piles import piles
 from queue_reference import KEYS, answer_of
 from reference import text_of
-from roster_reference import answer_of as season_answer_of
-from seasons import drawn_season, played_edges
-
-TOP = 2**32 - 1
+from roster_reference import answers_of as answers_of_script
+from seasons import drawn_season, edges as edges_of_seasons, refused_sets
 
 
 def words(*numbers):
@@ -49,6 +49,42 @@ def worked():
     yield set_file(32, 32, 100800, [100800] * 32 + [1])
     yield set_file(32, 1, 100800, [50401] * 32)
     yield set_file(32, 16, 100800, [48000] * 64)
+
+
+def grouped():
+    """Sets whose groups differ in their first intervals."""
+    # workers that are full, that are idle behind their runs, and that have no model; groups at rest
+    yield set_file(1, 1, 1, [1])
+    yield set_file(1, 1, 100800, [100800])
+    yield set_file(1, 1, 100800, [1])
+    yield set_file(32, 1, 100800, [1])
+    yield set_file(32, 32, 100800, [1])
+    yield set_file(5, 2, 12, [8])
+    yield set_file(5, 2, 12, [12, 9, 5, 5, 5])
+    yield set_file(4, 2, 12, [12, 12, 12, 12])
+    yield set_file(2, 1, 100800, [50401, 50401], [100800, 100800])
+    # a heavy model and a group of workers end their intervals by themselves
+    yield set_file(3, 2, 12, [4, 3, 6, 1], [4, 6, 12, 2])
+    yield set_file(4, 1, 12, [1, 1, 1, 1], [4, 3, 12, 2])
+    # runs by deadline, and by number where deadlines are equal
+    yield set_file(1, 1, 12, [1, 1, 1], [12, 6, 4])
+    yield set_file(1, 1, 12, [2, 1, 2, 1], [12, 6, 12, 6])
+    yield set_file(1, 1, 10, [3, 2, 2], [10, 10, 5])
+    # a run that is cut off where the interval ends, or before a second piece, and one that gets nothing
+    yield set_file(1, 1, 20, [10, 1], [20, 2])
+    yield set_file(1, 1, 20, [1, 9, 1], [2, 20, 20])
+    yield set_file(2, 2, 20, [1, 9, 3, 2], [2, 20, 5, 20])
+    yield set_file(3, 3, 20, [14, 8, 9, 1, 10, 2], [20, 20, 20, 20, 20, 4])
+    # a worker with a first and a second piece alone, and two with nothing between the two
+    yield set_file(3, 3, 10, [7, 7, 7])
+    yield set_file(3, 3, 10, [6, 9, 9])
+    yield set_file(4, 4, 10, [7, 9, 9, 9], [10, 10, 10, 10])
+    # the shortest interval is that of a divided model
+    yield set_file(2, 2, 12, [8, 3, 6], [12, 6, 12])
+    # 32 workers with a divided model on each, and the longest texts that were found, with one group and with 32
+    yield set_file(32, 32, 64, [33] * 62)
+    yield set_file(32, 32, 100800, [49800] * 64)
+    yield set_file(32, 1, 100800, [50000] * 64)
 
 
 def damaged():
@@ -133,108 +169,10 @@ def drawn_calls(source, order):
     return f"{order} {slots} {' '.join(calls)}"
 
 
-def questions(*ticks, model=1):
-    return "".join(f" ? earliest {model}@{tick}" for tick in ticks)
-
-
-def asked_phases():
-    """Phases at the edges of what they may be, and every kind of number that is no model's."""
-    for first, period in product((0, 1, END - 1, END, TOP), (0, 1, 2, 7, END - 1, END, TOP)):
-        ticks = questions(0, 1, 2, END - 1, END, TOP)
-        yield f"phase 1:{first},{period} ? spacing 1{ticks} ? agenda 0,{END} 3,64"
-    asked = "".join(f" ? spacing {model}{questions(0, 4, model=model)}" for model in (0, 1, 2, 63, 64, 65, 128, 2**31, TOP))
-    for table in ("phase", "phase 1:3,10 64:4,10", "list", "list 1:3 64:4 1@3 64@4"):
-        yield f"{table}{asked} ? agenda 0,20 5,64"
-    # ties of all models, and second dates just below, at and behind the end
-    phases = " ".join(f"{model}:0,{model}" for model in range(64, 0, -1))
-    yield f"phase {phases} ? agenda 0,1 63,64 ? agenda 0,1 64,64 ? agenda 0,1 65,64 ? agenda 1,9 20,64 ? agenda 5040,5041 64,64"
-    yield f"phase 5:{2**29 + 1},{2**29} 6:{2**29 - 1},{2**29} 7:{2**29},{2**29}{questions(2**29 + 2, model=5)} ? agenda 0,{END} 9,64"
-
-
-def asked_agendas():
-    """Spans at their edges and refused, and lent memory that is just enough or not."""
-    table = "phase 2:0,5 1:0,3 9:7,11"
-    spans = [(0, 0), (5, 5), (END, END), (1, 0), (END, END - 1), (END + 1, END + 1), (END, TOP), (0, END + 1), (0, TOP), (TOP, 0)]
-    for start, end in spans:
-        yield f"{table}" + "".join(f" ? agenda {start},{end} 2,{scratch}" for scratch in (0, 63, 64))
-    for scratch in (0, 1, 63, 64, 65, 200):
-        yield f"{table} ? agenda 0,10 9,{scratch} ? agenda 0,10 2,{scratch} ? agenda 0,10 0,{scratch}"
-    # there are 3 + 6 + 2 dates from 2 to 18, and none from 1 to 2
-    for room in (0, 1, 10, 11, 12, 30):
-        yield f"{table} ? agenda 2,19 {room},64 ? agenda 1,3 {room},64 ? agenda 0,{END} {room},64"
-    for start in range(0, 16):
-        yield f"{table} ? agenda {start},{start + 1} 2,64 ? agenda 0,{start} 20,64 ? agenda {start},16 20,64"
-
-
-def asked_layers():
-    """Layers at their edges, and layers that meet."""
-    tables = ["phase 1:0,7 2:5,1", f"phase 1:{END - 20},7 2:{END - 3},1", f"list 1:5 2:0 1@0 1@7 2@7 2@7 1@20 2@{END - 1}"]
-    ticks = questions(0, 6, 7, 8, END - 20, END - 19, END - 1)
-    for table, ticks_later in product(tables, (0, 1, 3, END - 8, END - 7, END - 1, END, END + 1, TOP)):
-        yield f"{table} | delay {ticks_later}{ticks}{questions(ticks_later, model=2)} ? spacing 2 ? agenda {END - 2},{END} 4,64"
-    edges = [(0, 0), (7, 7), (8, 6), (0, 1), (0, 7), (0, 8), (7, 8), (8, 14), (6, 15), (0, END), (0, TOP), (END - 6, END), (END - 1, END - 1)]
-    edges += [(END - 1, END + 5), (END, TOP), (TOP, 0), (TOP, TOP)]
-    for table, (start, end) in product(tables, edges):
-        yield f"{table} | closure {start},{end}{questions(0, 7, end)}{questions(END - 3, model=2)} ? agenda 0,15 9,64"
-    # closures that touch, overlap, hold one another, or leave one tick between them
-    for second in ("20,30", "15,30", "12,18", "5,30", "5,10", "21,30", "5,12", "20,20"):
-        for layers in (f"closure 10,20 | closure {second}", f"closure {second} | closure 10,20"):
-            yield f"phase 1:0,1 | {layers}{questions(4, 5, 9, 10, 12, 18, 19, 20, 21, 29)} ? agenda 3,32 29,64"
-    # what a delay brings into a closure, or takes out of one
-    for layers in ("delay 5 | closure 10,20", "closure 10,20 | delay 5", "delay 5 | closure 10,20 | delay 5", "closure 5,15 | delay 5 | closure 10,20"):
-        yield f"phase 1:0,4 3:2,3 | {layers}{questions(0, 5, 10, 11, 20)} ? agenda 0,40 30,64"
-
-
-def asked_lists():
-    """Lists that are sound to the last entry, and lists with each fault at their start, middle and end."""
-    sound = ["1@4", "2@4", "3@4", "3@4", "1@9", "2@10", "1@14", f"64@{END - 1}"]
-    faults = [f"5@{END}", f"5@{TOP}", "0@9", "65@9", f"{TOP}@9", "1@3", "5@8", "1@8", "2@9", "2@5", "1@4"]
-    after = " ? spacing 1 ? spacing 3 ? spacing 4" + questions(0, 5, 10, END - 1) + f" ? agenda 0,{END} 8,64"
-    yield f"list 1:5 2:6 {' '.join(sound)}{after}"
-    for fault, place in product(faults, (0, 1, 5, 7, 8)):
-        entries = " ".join([*sound[:place], fault, *sound[place:]])
-        yield f"list 1:5 2:6 {entries} ? earliest 1@0 ? agenda 0,{END} 9,64"
-    # spacings from nothing to what reaches far past the end
-    for spacing in (0, 1, 2, END - 1, END, TOP):
-        ends = (0, 1, END - 2, END - 1)
-        for first, second in ((a, b) for a in ends for b in ends if a <= b):
-            yield f"list 7:{spacing} 7@{first} 7@{second} ? agenda 0,{END} 2,64"
-        yield f"list 7:{spacing} 7@0 8@0 8@0 9@1 8@1 7@{END - 1} ? spacing 7 ? agenda 0,{END} 5,64"
-    yield f"list {'5@6 ' * 70}? earliest 5@6 ? earliest 5@7 ? agenda 6,7 1,64 ? agenda 6,7 0,64"
-    # equal ticks are listed in any order of models, and come out by model
-    yield f"list {' '.join(f'{model}@3' for model in range(64, 0, -1))} ? earliest 64@3 ? agenda 3,4 64,64 ? agenda 3,4 63,64"
-
-
-def drawn_phases(source, models, base):
-    return [f"{model}:{base + source.randrange(20)},{source.choice([0, 1, 2, 3, 5, 8, 13, 30])}" for model in models]
-
-
-def drawn_list(source, models, base):
-    """Spacings, and entries of which most are sound."""
-    spacings = {model: source.choice([0, 0, 1, 3, 8]) for model in models}
-    words, tick, least = [f"{model}:{spacings[model]}" for model in models], base, {}
-    for _ in range(source.randint(4, 12)):
-        tick += source.choice([0, 0, 1, 1, 2, 5])
-        model = source.choice(models)
-        if tick >= least.get(model, 0) or source.random() < 0.05:
-            words.append(f"{model}@{tick}")
-            least[model] = tick + spacings[model]
-    return words
-
-
-def drawn_calendar(source, table, layers):
-    """A table under these layers, with questions: ticks are small, or just below the end of all dates."""
-    base = source.choice([0, 0, 0, 0, 100, END - 60])
-    models = source.sample([1, 2, 3, 32, 63, 64], source.randint(1, 4))
-    text = " ".join([table, *(drawn_phases if table == "phase" else drawn_list)(source, models, base)])
-    for layer in layers:
-        start = base + source.randrange(30)
-        closed = f"{start},{max(start + source.choice([-1, 0, 1, 3, 6, 10]), 0)}"
-        text += f" | delay {source.choice([0, 1, 2, 7, 15])}" if layer == "delay" else f" | closure {closed}"
-    for model in source.choices(models, k=2):
-        text += questions(base + source.randrange(30), model=model)
-    start = base + source.choice([0, 1, 10, 20])
-    return f"{text} ? spacing {models[0]} ? agenda {start},{start + source.choice([1, 20, 40])} {source.choice([2, 10, 20, 40])},64"
+def script():
+    """Calendars with questions, rosters and sets at the edges of what they may be, and drawn rosters."""
+    source = random.Random(2026)
+    return [*chain(*piles(), *edges_of_seasons(), *refused_sets(), *(drawn_season(source) for _ in range(2000)))]
 
 
 def dispatched(text):
@@ -246,36 +184,29 @@ def dispatched(text):
 
 
 def main():
-    files = [*worked(), *damaged(), *drawn(random.Random(2026), 200)]
+    files = [*worked(), *damaged(), *grouped(), *drawn(random.Random(2026), 200)]
     with open("crates/cases/stdin", "w") as stdin:
         stdin.writelines(data.hex() + "\n" for data in files)
     with open("crates/cases/stdout", "w") as stdout:
         stdout.writelines(text_of(data) for data in files)
-    long = (set_file(2, 2, 10, [6, 6, 6]) + b"and so on\n" * 100_000)[:1_000_000]
+    sample = Path("examples/week.set").read_bytes()
     with open("crates/print/stdin", "wb") as stdin:
-        stdin.write(long)
+        stdin.write(sample)
     with open("crates/print/stdout", "w") as stdout:
-        stdout.write(text_of(long))
+        stdout.write(text_of(sample))
     source = random.Random(2026)
     lines = [*edges(), *(drawn_calls(source, order) for order in KEYS for _ in range(50))]
     with open("crates/served/stdin", "w") as stdin:
         stdin.writelines(line + "\n" for line in lines)
     with open("crates/served/stdout", "w") as stdout:
         stdout.writelines(map(answer_of, lines))
-    source = random.Random(2026)
-    shapes = [layers for count in range(4) for layers in product(("delay", "closure"), repeat=count)]
-    lines = [*asked_phases(), *asked_agendas(), *asked_layers(), *asked_lists()]
-    lines += [drawn_calendar(source, table, layers) for layers in shapes for table in ("phase", "list") for _ in range(4)]
-    with open("crates/dated/stdin", "w") as stdin:
+    lines = script()
+    answers = [*answers_of_script(lines)]
+    with open("crates/play/stdin", "w") as stdin:
         stdin.writelines(line + "\n" for line in lines)
-    with open("crates/dated/stdout", "w") as stdout:
-        stdout.writelines(map(calendar_answer_of, lines))
-    source = random.Random(2026)
-    lines = [*played_edges(), *(drawn_season(source) for _ in range(500))]
-    with open("crates/played/stdin", "w") as stdin:
-        stdin.writelines(line + "\n" for line in lines)
-    with open("crates/played/stdout", "w") as stdout:
-        stdout.writelines(map(season_answer_of, lines))
+    with open("crates/play/stdout", "w") as stdout:
+        stdout.writelines(answer + "\n" for answer in answers)
+    print("play:", told(totals_of(lines, answers)))
     jobs = [(end, phases) for _, end, phases in AGENDAS if count_of(end, phases) < 5_000]
     with open("crates/timed/stdin", "w") as stdin:
         stdin.writelines(line_of(*job) + "\n" for job in jobs)
