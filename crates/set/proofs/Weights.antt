@@ -4,19 +4,19 @@ use Rattle.set.specs.declared.sets.Set.{Set}
 use Rattle.set.specs.Sets.{Weighs, models_of, grain_of, cost_of, period_of, weight_of}
 
 -- a period that divides the grain goes into it a whole number of times
-times : (grain period : ℕ) → grain % period ≡ 0 → grain / period * period ≡ grain
+pub times : (grain period : ℕ) → grain % period ≡ 0 → grain / period * period ≡ grain
 times grain period h = grind arith
 
-weight_exact : (cost grain period : ℕ) → grain % period ≡ 0 → cost * (grain / period) * period ≡ cost * grain
+pub weight_exact : (cost grain period : ℕ) → grain % period ≡ 0 → cost * (grain / period) * period ≡ cost * grain
 weight_exact cost grain period h = grind (arith, times)
 
-weight_fits : (cost grain period : ℕ) → cost ≤ period → cost * (grain / period) ≤ grain
+pub weight_fits : (cost grain period : ℕ) → cost ≤ period → cost * (grain / period) ≤ grain
 weight_fits cost grain period h = grind (arith, div-mul-le_self, mul-le-mul_right)
 
 quotient_some : (q period grain : ℕ) → q * period ≡ grain → 1 ≤ grain → 1 ≤ q
 quotient_some q period grain e h = grind arith
 
-weight_some : (cost grain period : ℕ) → 1 ≤ cost → 1 ≤ grain → grain % period ≡ 0 → 1 ≤ cost * (grain / period)
+pub weight_some : (cost grain period : ℕ) → 1 ≤ cost → 1 ≤ grain → grain % period ≡ 0 → 1 ≤ cost * (grain / period)
 weight_some cost grain period some-cost some-grain h =
     let some = quotient_some (grain / period) period grain (times grain period h) some-grain in
     grind arith

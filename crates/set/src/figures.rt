@@ -1,4 +1,4 @@
-ghost use Rattle.std.specs.Prelude.{◌≡◌, length, map, None, slice_index};
+ghost use Rattle.std.specs.Prelude.{◌≡◌, ◌≤◌, length, map, None, slice_index};
 ghost use Rattle.std.specs.List.{range_with_len};
 ghost use Rattle.refusal.specs.Refusals.{Answers};
 ghost use Rattle.set.specs.Limits.{about_model, about_models};
@@ -10,7 +10,6 @@ use crate::sets::Set;
 use crate::sizes::checks::outside;
 use crate::sizes::{MODELS, SizeKind, Sizes};
 use refusal::{Fault, Layer, Refusal};
-use std::array;
 
 /// What a planner brings, unchecked: the sizes, and for each model a cost and a period, both in ticks.
 #[derive(Clone, Copy, Debug, PartialEq, Eq, Hash)]
@@ -90,17 +89,17 @@ fn check_model(grain: u32, model: u64, cost: u32, period: u32) -> Result<(), Ref
 
 /// Each model of these costs and periods in its slot, and 0 behind the last.
 fn slots(costs: &[u32], periods: &[u32]) -> [Model; MODELS]
+    requires level { length costs.now ≡ length periods.now }
+    requires few { length costs.now ≤ 64 }
     ensures { result ≡ map (λ i. record { cost = slice_index costs.now i; period = slice_index periods.now i }) (range_with_len 0 64) }
 {
-    array::from_fn(|i| Model {
-        cost: nth(costs, i),
-        period: nth(periods, i),
-    })
-}
-
-/// The number in slot i, or 0 behind the last.
-fn nth(numbers: &[u32], i: usize) -> u32
-    ensures { result ≡ slice_index numbers.now i }
-{
-    numbers.get(i).copied().unwrap_or(0)
+    // only the slots of models are filled one by one, so figures of few models take little time
+    let mut models = [Model { cost: 0, period: 0 }; MODELS];
+    for (i, (cost, period)) in costs.iter().zip(periods).enumerate() {
+        models[i] = Model {
+            cost: *cost,
+            period: *period,
+        };
+    }
+    models
 }

@@ -1,5 +1,5 @@
 -- More bytes than the longest file has are refused the same, whatever stands behind them.
-use Rattle.std.proofs.Common.{◌≡◌, ℕ, ◌+◌, ◌*◌, ◌<◌, ◌≤◌, true, false, nat_le, List, ◌++◌, length, get_or, None, Some, Ok, Err, Option, Result, refl, sym, ap, ◌∙◌, arith}
+use Rattle.std.proofs.Common.{◌≡◌, ℕ, ◌+◌, ◌*◌, ◌<◌, ◌≤◌, nat_le, List, ◌++◌, length, get_or, None, Some, Ok, Err, Option, Result, refl, sym, ◌∙◌, arith}
 use Rattle.std.proofs.lemmas.Bool.{and_parts, le-leb, leb-true, lt-leb}
 use Rattle.std.proofs.lemmas.List.{get_or_append_left, length-append}
 use Rattle.refusal.specs.Refusals.{Complaint, told, check, or_else}

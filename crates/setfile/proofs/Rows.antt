@@ -1,11 +1,12 @@
 -- Words that stand in a row in some bytes.
-use Rattle.std.proofs.Common.{◌≡◌, ℕ, zero, suc, ◌+◌, ◌-◌, ◌*◌, ◌^◌, ◌<◌, ◌≤◌, List, [], ◌∷◌, ◌++◌, length, get_or, take, drop, sym, ap, ◌∙◌, add_assoc, arith, w32}
+use Rattle.std.proofs.Common.{◌≡◌, ℕ, zero, suc, ◌+◌, ◌-◌, ◌*◌, ◌^◌, ◌<◌, ◌≤◌, List, [], ◌∷◌, ◌++◌, length, get_or, take, drop, set as put, sym, ap, ◌∙◌, ⊎_elim, add_assoc, arith, w32}
 use Rattle.std.specs.Int.{from_le_bytes}
 use Rattle.std.specs.Simd.{first_chunks}
 use Rattle.std.specs.List.{flat_map, AllByRecursion}
 use Rattle.std.proofs.lemmas.Nat.{from_le_bytes-to_le_bytes_4}
+use Rattle.std.proofs.lemmas.Bool.{cases_eq}
 use Rattle.std.proofs.lemmas.Grind.{common_steps}
-use Rattle.std.proofs.lemmas.List.{length-drop, get_or-drop, get_or-take, length-take-le, take_all, nil_from_length, take-append-drop}
+use Rattle.std.proofs.lemmas.List.{length-take, get_or-set_same, get_or-set_other, length-drop, get_or-drop, get_or-take, length-take-le, nil_from_length, take-append-drop}
 use Rattle.std.proofs.lemmas.List.FromFn.{get_or-map-range_with_len, length-map-range_with_len, fill_by_all}
 use Rattle.setfile.specs.Format.{word_bytes, word_at, words_at}
 use Rattle.setfile.proofs.Bytes.{word_spelled}
@@ -23,6 +24,20 @@ word_at-first_chunks bytes zero i h = absurd (omega arith)
 word_at-first_chunks bytes (suc n) zero h = grind (arith, common_steps)
 word_at-first_chunks bytes (suc n) (suc i) h =
     let t = word_at-first_chunks (drop 4 bytes) n i (omega arith) in grind (arith, word_at-drop)
+
+-- one word more is read
+pub word_more : (bytes : List ℕ) (n most i : ℕ) (chunks : List (List ℕ)) (ws : List ℕ) (w : ℕ) → chunks ≡ first_chunks 4 n bytes → length chunks ≡ n → i < length (take most chunks) → i < length ws → w ≡ from_le_bytes w32 (get_or (take most chunks) i []) → ((k : ℕ) → k < i → get_or ws k 0 ≡ word_at bytes (4 * k)) → (k : ℕ) → k < i + 1 → get_or (put ws i w) k 0 ≡ word_at bytes (4 * k)
+word_more bytes n most i chunks ws w are long within few is so-far k h =
+    ⊎_elim
+    (λ (same : k ≡ i). rw same (get_or-set_same ws i w 0 few ∙ here))
+    (λ (ne : k ≡ i → ⊥). get_or-set_other ws i k w 0 ne ∙ so-far k (omega arith))
+    (cases_eq k i)
+  where
+    low : (i < most) × (i < n)
+    low = let e = length-take most chunks in (omega arith, omega arith)
+
+    here : w ≡ word_at bytes (4 * i)
+    here = is ∙ ap (from_le_bytes w32) (get_or-take most chunks i [] low.0 ∙ ap (λ cs. get_or cs i []) are) ∙ word_at-first_chunks bytes n i low.1
 
 module _ (bytes : List ℕ) (at : ℕ) where
   pub row_cons : (w : ℕ) (ws : List ℕ) → word_at bytes at ≡ w → Row bytes (at + 4) ws → Row bytes at (w ∷ ws)
@@ -48,14 +63,18 @@ module _ (bytes : List ℕ) (at : ℕ) where
   row_read ws n level row =
       sym (fill_by_all (λ i. word_at bytes (at + 4 * i)) ws n 0 level (λ i h. sym (row i (omega arith))))
 
--- the first n of the words that are read from this place on are those that stand there
-pub words_read : (bytes : List ℕ) (at n most : ℕ) (ws : List ℕ) → let rest = take (length bytes - at) (drop at bytes) in ((i : ℕ) → i < most → 4 * i + 4 ≤ length rest → get_or ws i 0 ≡ word_at rest (4 * i)) → n ≤ most → n ≤ length ws → at + 4 * n ≤ length bytes → take n ws ≡ words_at bytes at n
-words_read bytes at n most ws each fewer few within =
+word_at-take : (bytes : List ℕ) (cut at : ℕ) → at + 4 ≤ cut → word_at (take cut bytes) at ≡ word_at bytes at
+word_at-take bytes cut at h = grind (arith, common_steps)
+
+-- the first n of the words that are read from this place on, up to a cut behind them, are those that stand there
+pub words_read : (bytes : List ℕ) (at n most cut : ℕ) (ws : List ℕ) → let rest = take cut (drop at bytes) in ((i : ℕ) → i < most → 4 * i + 4 ≤ length rest → get_or ws i 0 ≡ word_at rest (4 * i)) → n ≤ most → n ≤ length ws → 4 * n ≤ cut → at + 4 * n ≤ length bytes → take n ws ≡ words_at bytes at n
+words_read bytes at n most cut ws each fewer few before within =
     fill_by_all (λ i. word_at bytes (at + 4 * i)) (take n ws) n 0 (length-take-le n ws few)
-    (λ i h. get_or-take n ws i 0 h ∙ each i (omega arith) (omega (arith, ap length rest, length-drop at bytes)) ∙ ap (λ bs. word_at bs (4 * i)) rest ∙ word_at-drop bytes at (4 * i))
-  where
-    rest : take (length bytes - at) (drop at bytes) ≡ drop at bytes
-    rest = take_all (length bytes - at) (drop at bytes) (grind (arith, common_steps))
+    (λ i h.
+    get_or-take n ws i 0 h
+    ∙ each i (omega arith) (omega (arith, length-take cut (drop at bytes), length-drop at bytes))
+    ∙ word_at-take (drop at bytes) cut (4 * i) (omega arith)
+    ∙ word_at-drop bytes at (4 * i))
 
 pub row_header : (bytes : List ℕ) (a b c d : ℕ) (ws : List ℕ) → word_at bytes 0 ≡ a → word_at bytes 4 ≡ b → word_at bytes 8 ≡ c → word_at bytes 12 ≡ d → Row bytes 16 ws → Row bytes 0 (a ∷ (b ∷ (c ∷ (d ∷ ws))))
 row_header bytes a b c d ws ea eb ec ed rest =
@@ -78,7 +97,7 @@ pub row_joined : (bytes ws : List ℕ) → ((i : ℕ) → get_or bytes i 0 < 256
 row_joined bytes [] fits level row = nil_from_length bytes level
 row_joined bytes (w ∷ ws) fits level row =
     sym (take-append-drop 4 bytes)
-    ∙ ap (λ xs. xs ++ drop 4 bytes) (sym (word_spelled bytes 0 (omega arith) fits) ∙ ap word_bytes (row 0 (omega arith)))
+    ∙ ap (λ xs. xs ++ drop 4 bytes) (sym (word_spelled bytes 0 (omega arith) (fits 0) (fits 1) (fits 2) (fits 3)) ∙ ap word_bytes (row 0 (omega arith)))
     ∙ ap (λ xs. word_bytes w ++ xs) (row_joined (drop 4 bytes) ws fits' (omega (arith, length-drop 4 bytes)) row')
   where
     fits' : (i : ℕ) → get_or (drop 4 bytes) i 0 < 256

@@ -2,17 +2,17 @@
 #![tactic(auto)]
 
 ghost use Rattle.std.specs.Prelude.{◌≡◌, ℕ, ◌+◌, ◌*◌, ◌<◌, ◌≤◌, List, ◌++◌, length, Ok, MatchResult, slice_index};
+ghost use Rattle.std.specs.List.{flat_map};
 ghost use Rattle.refusal.specs.Refusals.{Answers};
 ghost use Rattle.set.specs.declared.sets.Set.{Set};
-ghost use Rattle.set.specs.Sets.{models_of};
-ghost use Rattle.setfile.specs.Format.{file_of, word_at};
+ghost use Rattle.set.specs.Sets.{models_of, MadeOf};
+ghost use Rattle.setfile.specs.Format.{file_of, word_at, word_bytes};
 ghost use Rattle.setfile.specs.Reading.{Reads, Wrote, about_writing, size_for};
 
 use refusal::{Fault, Layer, Refusal};
 use set::figures::Figures;
 use set::sets::Set;
 use set::sizes::{MODELS, Sizes};
-use std::array;
 
 /// The bytes of the four sizes at the head of a file.
 const HEADER: usize = 16;
@@ -42,7 +42,7 @@ pub fn read(bytes: &[u8]) -> Result<Set, Refusal>
         return Err(Fault::Long.at(Layer::File, size as u64));
     }
     // the tables have room for the most models: nothing allocates
-    let costs = words::<MODELS>(&bytes[HEADER..]);
+    let costs = words::<MODELS>(&bytes[HEADER..HEADER + 4 * count]);
     let periods = words::<MODELS>(&bytes[HEADER + 4 * count..]);
     let figures = Figures {
         workers: sizes.workers,
@@ -65,13 +65,15 @@ pub fn write(figures: &Figures, buffer: &mut [u8]) -> Result<usize, Refusal>
     if buffer.len() < size {
         return Err(Fault::Short.at(Layer::File, buffer.len() as u64));
     }
-    put_file(&set, &mut buffer[..size]);
+    put_file(&set, figures, &mut buffer[..size]);
     Ok(size)
 }
 
-/// Fills the place with the file of the set.
-fn put_file(set: &Set, place: &mut [u8])
-    requires { length place.old ≡ size_for (models_of set.now) }
+/// Fills the place with the file of the set that these figures make.
+fn put_file(set: &Set, figures: &Figures, place: &mut [u8])
+    requires made { MadeOf figures.now set.now }
+    requires level { length figures.now.costs.now ≡ length figures.now.periods.now }
+    requires room { length place.old ≡ size_for (models_of set.now) }
     ensures { place.new ≡ file_of set.now }
 {
     let Sizes {
@@ -80,15 +82,22 @@ fn put_file(set: &Set, place: &mut [u8])
         group_size,
         grain,
     } = set.sizes;
-    let count = models as usize;
     let sizes = [models, workers, group_size, grain].map(u32::to_le_bytes);
-    let costs = set.models.map(|model| model.cost).map(u32::to_le_bytes);
-    let periods = set.models.map(|model| model.period).map(u32::to_le_bytes);
     let (header, rows) = place.split_at_mut(HEADER);
-    let (cost_row, period_row) = rows.split_at_mut(4 * count);
+    let (cost_row, period_row) = rows.split_at_mut(4 * figures.costs.len());
     header.copy_from_slice(sizes.as_flattened());
-    cost_row.copy_from_slice(costs[..count].as_flattened());
-    period_row.copy_from_slice(periods[..count].as_flattened());
+    put_words(figures.costs, cost_row);
+    put_words(figures.periods, period_row);
+}
+
+/// Fills the place with these words.
+fn put_words(words: &[u32], place: &mut [u8])
+    requires { length place.old ≡ 4 * length words.now }
+    ensures { place.new ≡ flat_map word_bytes words.now }
+{
+    for (i, word) in words.iter().enumerate() {
+        place[4 * i..4 * i + 4].copy_from_slice(&word.to_le_bytes());
+    }
 }
 
 /// The bytes of a file with this many models.
@@ -103,6 +112,10 @@ fn file_size(models: usize) -> usize
 fn words<const N: usize>(bytes: &[u8]) -> [u32; N]
     ensures { (i : ℕ) → i < N → 4 * i + 4 ≤ length bytes.now → slice_index result i ≡ word_at bytes.now (4 * i) }
 {
-    let (words, _) = bytes.as_chunks::<4>();
-    array::from_fn(|i| words.get(i).map_or(0, |word| u32::from_le_bytes(*word)))
+    let (chunks, _) = bytes.as_chunks::<4>();
+    let mut words = [0; N];
+    for (i, chunk) in chunks[..chunks.len().min(N)].iter().enumerate() {
+        words[i] = u32::from_le_bytes(*chunk);
+    }
+    words
 }

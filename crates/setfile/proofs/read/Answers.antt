@@ -30,7 +30,7 @@ pub returns : goal.returns
 returns c =
     let heads = heads_read c.args.bytes.now c.if-bytes-lt-HEADER.false c.words.result c.words.ensures c.in_ok-sizes.sizes c.in_ok-sizes.ensures.1 in
     let n = c.in_ok-sizes.sizes.models in
-    let costs = words_read c.args.bytes.now 16 n 64 c.words-costs.result c.words-costs.ensures (omega arith) (omega arith) (omega arith) in
-    let periods = words_read c.args.bytes.now (16 + 4 * n) n 64 c.words-periods.result c.words-periods.ensures (omega arith) (omega arith) (omega arith) in
+    let costs = words_read c.args.bytes.now 16 n 64 _ c.words-costs.result c.words-costs.ensures (omega arith) (omega arith) (omega arith) (omega arith) in
+    let periods = words_read c.args.bytes.now (16 + 4 * n) n 64 _ c.words-periods.result c.words-periods.ensures (omega arith) (omega arith) (omega arith) (omega arith) in
     let h = reads_figures c.args.bytes.now (λ i. omega (arith, c.type_inv.bytes i)) c.in_ok-sizes.sizes heads (omega arith) _ _ costs periods c.check.result c.check.ensures in
     record { reads = h; back = reads_back c.args.bytes.now _ h; one = one_file c.args.bytes.now _ h; longer = reads_longer c.args.bytes.now c.check.result h }

@@ -1,19 +1,11 @@
-use Rattle.std.proofs.Common.{◌≡◌, ℕ, ◌<◌, List, length, get_or, arith}
-use Rattle.std.specs.List.{enumerate_from, zip}
+use Rattle.std.proofs.Common.{length}
 use Rattle.std.proofs.lemmas.Iterator.{YieldsList-from_slice, YieldsList-from_zip}
 use Rattle.std.proofs.lemmas.Iterator.Consumers.{YieldsList-from_enumerate, YieldsList-turn}
-use Rattle.std.proofs.lemmas.Slice.Zip.{length-zip, get_or-zip}
-use Rattle.std.proofs.lemmas.List.FromFn.{length-enumerate_from, get_or-enumerate_from}
 use Rattle.std.proofs.lemmas.List.{length_push}
-use Rattle.std.proofs.lemmas.Grind.{common_steps, get_or_default_zero}
 use Rattle.std.proofs.lemmas.Result.{err_from_is_err_and}
 use Rattle.refusal.proofs.Firsts.{first_more, first_stays}
+use Rattle.set.proofs.Slots.{item}
 use Rattle.set.proofs.figures.Figures.check_models.Goals as goal
-
--- the n-th item of the loop is the n-th model
-item : (costs periods : List ℕ) (n i cost period : ℕ) → length costs ≡ length periods → (n < length (enumerate_from 0 (zip costs periods))) × ((i, (cost, period)) ≡ get_or (enumerate_from 0 (zip costs periods)) n (i, (cost, period))) → (n < length costs) × (i ≡ n) × (cost ≡ get_or costs n 0) × (period ≡ get_or periods n 0)
-item costs periods n i cost period level h =
-    grind (arith, common_steps, length-enumerate_from, get_or-enumerate_from, length-zip, get_or-zip, get_or_default_zero)
 
 pub returns-in_err-check_model : goal.returns-in_err-check_model
 returns-in_err-check_model c =
